@@ -31,7 +31,7 @@ impl<'a> ServedConnect<'a> {
 
 impl<'a> Connect for ServedConnect<'a> {
     ghost use Rattle.std.specs.Prelude.{false, None};
-    ghost use Rattle.fetch_store.specs.Faults.{counted};
+    ghost use Rattle.fetch_base.specs.Faults.{counted};
 
     type Peer = ServedPeer<'a>;
 

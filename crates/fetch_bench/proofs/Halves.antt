@@ -7,15 +7,15 @@ use Rattle.std.proofs.lemmas.List.{map-append, length-map}
 use Rattle.std.proofs.lemmas.List.FromFn.{length-map-range_with_len}
 use Rattle.hex.specs.Hex.{lower_digits}
 use Rattle.hex.proofs.HexLemmas.{length-encode_with}
-use Rattle.fetch_store.specs.Hashing.{header}
-use Rattle.fetch_store.specs.Digits.{hex_of}
-use Rattle.fetch_store.specs.Id.{bytes_of}
+use Rattle.fetch_base.specs.Hashing.{header}
+use Rattle.fetch_base.specs.Digits.{hex_of}
+use Rattle.fetch_base.specs.Id.{bytes_of}
 use Rattle.fetch_store.specs.Objects.{Stored}
 use Rattle.fetch_store.specs.Stores.{AreOf, Entries}
-use Rattle.fetch_store.specs.declared.id.Kind.TheVariants.{Sha1}
-use Rattle.fetch_store.specs.declared.id.ObjectId.{ObjectId}
-use Rattle.fetch_store.specs.declared.object_kind.ObjectKind.TheVariants.{Commit, Tree}
-use Rattle.fetch_store.proofs.Digests.{length-digest}
+use Rattle.fetch_base.specs.declared.id.Kind.TheVariants.{Sha1}
+use Rattle.fetch_base.specs.declared.id.ObjectId.{ObjectId}
+use Rattle.fetch_base.specs.declared.object_kind.ObjectKind.TheVariants.{Commit, Tree}
+use Rattle.fetch_base.proofs.Digests.{length-digest}
 use Rattle.fetch_pack.specs.Records.{Fits, pack_text, payloads_of, payload_of}
 use Rattle.fetch_pack.specs.declared.version.PackVersion.TheVariants.{V1}
 use Rattle.fetch_bench.specs.Commits.{under_its_id, signature, text_of, commit_after, commits_after, line_of, tip, tree_id}

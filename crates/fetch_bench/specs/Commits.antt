@@ -2,13 +2,13 @@
 use Rattle.std.specs.Prelude.{ℕ, zero, suc, ◌+◌, List, [], ◌∷◌, ◌++◌, map, codes, decimal, Option, Some, None, option_to_list, option_map}
 use Rattle.std.specs.List.{range_with_len}
 use Rattle.fetch_store.specs.CommitTexts.{CommitParts, commit_text}
-use Rattle.fetch_store.specs.Hashing.{id_of}
-use Rattle.fetch_store.specs.Digits.{hex_of}
+use Rattle.fetch_base.specs.Hashing.{id_of}
+use Rattle.fetch_base.specs.Digits.{hex_of}
 use Rattle.fetch_store.specs.Objects.{Stored}
 use Rattle.fetch_store.specs.Stores.{Entries}
-use Rattle.fetch_store.specs.declared.id.Kind.TheVariants.{Sha1}
-use Rattle.fetch_store.specs.declared.id.ObjectId.{ObjectId}
-use Rattle.fetch_store.specs.declared.object_kind.ObjectKind.TheVariants.{Commit, Tree}
+use Rattle.fetch_base.specs.declared.id.Kind.TheVariants.{Sha1}
+use Rattle.fetch_base.specs.declared.id.ObjectId.{ObjectId}
+use Rattle.fetch_base.specs.declared.object_kind.ObjectKind.TheVariants.{Commit, Tree}
 
 -- an object under its id
 abbrev pub under_its_id : Stored → ObjectId × Stored

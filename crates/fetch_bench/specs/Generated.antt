@@ -1,6 +1,6 @@
 -- A fetch of the second half of a line of commits.
 use Rattle.std.specs.Prelude.{ℕ, ◌+◌, ◌-◌, ◌/◌, List}
-use Rattle.fetch_store.specs.declared.id.Kind.TheVariants.{Sha1}
+use Rattle.fetch_base.specs.declared.id.Kind.TheVariants.{Sha1}
 use Rattle.fetch_pack.specs.Records.{pack_text, payloads_of}
 use Rattle.fetch_pack.specs.declared.version.PackVersion.TheVariants.{V1}
 use Rattle.fetch_wire.specs.Cutting.{in_pieces}

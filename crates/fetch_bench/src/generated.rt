@@ -2,7 +2,7 @@
 
 ghost use Rattle.std.specs.Prelude.{◌≡◌, ◌<◌, ◌≤◌, ◌/◌, map, IfOk};
 ghost use Rattle.fetch_store.specs.Stores.{AreOf};
-ghost use Rattle.fetch_store.specs.declared.id.Kind.TheVariants.{Sha1};
+ghost use Rattle.fetch_base.specs.declared.id.Kind.TheVariants.{Sha1};
 ghost use Rattle.fetch_pack.specs.Records.{Fits, pack_text, payloads_of};
 ghost use Rattle.fetch_pack.specs.declared.version.PackVersion.TheVariants.{V1};
 ghost use Rattle.fetch_bench.specs.Commits as commits;

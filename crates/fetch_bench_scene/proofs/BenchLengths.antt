@@ -7,15 +7,15 @@ use Rattle.std.proofs.lemmas.Fmt.{length-decimal-le}
 use Rattle.std.proofs.lemmas.Bool.Decides.{nat_tests}
 use Rattle.std.proofs.lemmas.Grind.{flat_map-append}
 use Rattle.hex.specs.Hex.{encode_with}
-use Rattle.fetch_store.specs.Digits.{hex_of}
-use Rattle.fetch_store.specs.Hashing.{digest}
-use Rattle.fetch_store.specs.Id.{bytes_of}
+use Rattle.fetch_base.specs.Digits.{hex_of}
+use Rattle.fetch_base.specs.Hashing.{digest}
+use Rattle.fetch_base.specs.Id.{bytes_of}
 use Rattle.fetch_store.specs.Objects.{Stored}
 use Rattle.fetch_store.specs.Texts.{line}
-use Rattle.fetch_store.specs.declared.id.Kind.TheVariants.{Sha1}
-use Rattle.fetch_store.specs.declared.id.ObjectId.{ObjectId}
-use Rattle.fetch_store.specs.declared.object_kind.ObjectKind.TheVariants.{Tree}
-use Rattle.fetch_store.proofs.Digests.{length-digest}
+use Rattle.fetch_base.specs.declared.id.Kind.TheVariants.{Sha1}
+use Rattle.fetch_base.specs.declared.id.ObjectId.{ObjectId}
+use Rattle.fetch_base.specs.declared.object_kind.ObjectKind.TheVariants.{Tree}
+use Rattle.fetch_base.proofs.Digests.{length-digest}
 use Rattle.fetch_pack.specs.Records.{Payload as PackPayload, body, pack_text, payload_of, payloads_of, record_text, under_its_id, under_their_ids}
 use Rattle.fetch_pack.specs.declared.version.PackVersion.TheVariants.{V1}
 use Rattle.fetch_wire.specs.Bands.{Piece, band_line, pack_lines}

@@ -18,20 +18,21 @@ use Rattle.hex.proofs.HexLemmas.{length-encode_with, decode_sized-encode_lower, 
 use Rattle.sha1.specs.Sha1.{sha1, digest_bytes}
 use Rattle.fetch_store.specs.Collisions.{HasDistinctIds}
 use Rattle.fetch_store.specs.CommitTexts.{IsCommit}
-use Rattle.fetch_store.specs.Digits.{hex_of}
-use Rattle.fetch_store.specs.Hashing.{id_of}
-use Rattle.fetch_store.specs.Id.{bytes_of, id_in_hex}
-use Rattle.fetch_store.specs.Lines.{IsWithout}
+use Rattle.fetch_base.specs.Digits.{hex_of}
+use Rattle.fetch_base.specs.Hashing.{id_of}
+use Rattle.fetch_base.specs.Id.{bytes_of, id_in_hex}
+use Rattle.fetch_base.specs.Lines.{IsWithout}
 use Rattle.fetch_store.specs.Objects.{Stored, IsObject, reading}
-use Rattle.fetch_store.specs.Scan.{is_decimal}
+use Rattle.fetch_base.specs.Scan.{is_decimal}
 use Rattle.fetch_store.specs.Stores.{Entries, collision}
 use Rattle.fetch_store.specs.Texts.{IsHexId}
-use Rattle.fetch_store.specs.declared.id.Kind.TheVariants.{Sha1}
-use Rattle.fetch_store.specs.declared.id.ObjectId.{ObjectId}
-use Rattle.fetch_store.specs.declared.object_kind.ObjectKind.{ObjectKind}
-use Rattle.fetch_store.specs.declared.object_kind.ObjectKind.TheVariants.{Commit, Tree}
-use Rattle.fetch_store.proofs.CommitTexts.{both_without, decimal_without, commits_are_texts}
-use Rattle.fetch_store.proofs.Digests.{length-digest}
+use Rattle.fetch_base.specs.declared.id.Kind.TheVariants.{Sha1}
+use Rattle.fetch_base.specs.declared.id.ObjectId.{ObjectId}
+use Rattle.fetch_base.specs.declared.object_kind.ObjectKind.{ObjectKind}
+use Rattle.fetch_base.specs.declared.object_kind.ObjectKind.TheVariants.{Commit, Tree}
+use Rattle.fetch_store.proofs.CommitTexts.{decimal_without, commits_are_texts}
+use Rattle.fetch_base.proofs.Words.{both_without}
+use Rattle.fetch_base.proofs.Digests.{length-digest}
 use Rattle.fetch_pack.specs.Packs.{entries, IsPack}
 use Rattle.fetch_pack.specs.Reading.{read, once_from, unless}
 use Rattle.fetch_pack.specs.Records.{Fits, pack_text, payload_of, payloads_of}

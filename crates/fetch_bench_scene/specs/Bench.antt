@@ -1,8 +1,8 @@
 -- The scene of a bench.
 use Rattle.std.specs.Prelude.{ℕ, false, List, [], ◌∷◌, codes, Some, option_to_list, option_map}
 use Rattle.std.specs.FinSet as set
-use Rattle.fetch_store.specs.declared.id.Kind.TheVariants.{Sha1}
-use Rattle.fetch_store.specs.declared.id.ObjectId.{ObjectId}
+use Rattle.fetch_base.specs.declared.id.Kind.TheVariants.{Sha1}
+use Rattle.fetch_base.specs.declared.id.ObjectId.{ObjectId}
 use Rattle.fetch_specs.specs.declared.tags.Tags.TheVariants as tags
 use Rattle.fetch_config.specs.Contents.{Contents}
 use Rattle.fetch_config.specs.Lines.{sections_of}

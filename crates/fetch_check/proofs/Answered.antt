@@ -1,7 +1,7 @@
 -- What reading a bundle answers, from what its steps answer.
 use Rattle.std.proofs.Common.{◌≡◌, ℕ, inr, List, Result, Ok, Err, sym, ap, ap₂, subst, ◌∙◌}
 use Rattle.std.specs.Prelude.{IfOk, IfErr}
-use Rattle.fetch_store.specs.declared.id.Kind.{Kind}
+use Rattle.fetch_base.specs.declared.id.Kind.{Kind}
 use Rattle.fetch_store.specs.Borders.{IdSet}
 use Rattle.fetch_store.specs.Stores.{Entries}
 use Rattle.fetch_pack.specs.Packs.{IsPack, contents_of}

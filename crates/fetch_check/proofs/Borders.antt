@@ -3,7 +3,7 @@ use Rattle.std.proofs.Common.{◌≡◌, sym, ap, ◌∙◌}
 use Rattle.std.specs.FinSet as set
 use Rattle.fetch_store.specs.Borders.{IdSet, ids_of, set_of}
 use Rattle.fetch_store.proofs.Borders.{named-ids_of}
-use Rattle.fetch_store.proofs.Ids.{id_cmp_total, id_cmp_exact}
+use Rattle.fetch_base.proofs.Ids.{id_cmp_total, id_cmp_exact}
 
 -- the ids of a set are its own
 pub set_of-ids : (s : IdSet) → set_of (ids_of s) ≡ s

@@ -6,11 +6,11 @@ use Rattle.std.specs.Map.{keys_of}
 use Rattle.std.specs.FinMap as finmap
 use Rattle.std.proofs.lemmas.List.{drop_all, length-drop}
 use Rattle.hex.specs.Hex.{encode_with}
-use Rattle.fetch_store.specs.declared.id.Kind.{Kind}
-use Rattle.fetch_store.specs.declared.id.Kind.TheVariants.{Sha1, Sha256}
-use Rattle.fetch_store.specs.declared.id.ObjectId.{ObjectId}
+use Rattle.fetch_base.specs.declared.id.Kind.{Kind}
+use Rattle.fetch_base.specs.declared.id.Kind.TheVariants.{Sha1, Sha256}
+use Rattle.fetch_base.specs.declared.id.ObjectId.{ObjectId}
 use Rattle.fetch_store.specs.Borders.{ids_of}
-use Rattle.fetch_store.specs.Stores.{id_cmp}
+use Rattle.fetch_base.specs.Id.{id_cmp}
 use Rattle.fetch_refs.specs.declared.target.Target.{Target}
 use Rattle.fetch_refs.specs.Names.{name_cmp}
 use Rattle.fetch_wire.specs.declared.lines.line.Line.{Line}

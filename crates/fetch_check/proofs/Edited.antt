@@ -6,7 +6,7 @@ use Rattle.std.specs.Ordering.{is_eq, ordering_reverse}
 use Rattle.std.specs.declared.cmp.Ordering.TheVariants.{Less}
 use Rattle.std.specs.Map.{keys_of}
 use Rattle.std.specs.FinMap as finmap
-use Rattle.fetch_store.specs.declared.id.Kind.{Kind}
+use Rattle.fetch_base.specs.declared.id.Kind.{Kind}
 use Rattle.fetch_refs.specs.Edits.{refs_after, changed}
 use Rattle.fetch_refs.specs.Logs.{Logging, logs_after, updated, gets_line, after}
 use Rattle.fetch_refs.specs.Names.{Names, Logs, PackedList, name_cmp}

@@ -9,13 +9,14 @@ use Rattle.std.specs.declared.cmp.Ordering.TheVariants.{Less, Equal, Greater}
 use Rattle.std.proofs.lemmas.List.{append-nil, map-append}
 use Rattle.std.proofs.lemmas.List.Folds.{list_any-append}
 use Rattle.fetch_store.specs.declared.missing.Missing.{Missing}
-use Rattle.fetch_store.specs.declared.id.ObjectId.{ObjectId}
-use Rattle.fetch_store.specs.Stores.{ObjectMap, id_cmp}
+use Rattle.fetch_base.specs.declared.id.ObjectId.{ObjectId}
+use Rattle.fetch_store.specs.Stores.{ObjectMap}
+use Rattle.fetch_base.specs.Id.{id_cmp}
 use Rattle.fetch_store.specs.Closed.{is_commit}
-use Rattle.fetch_store.specs.Distinct.{with_distinct}
+use Rattle.fetch_base.specs.Distinct.{with_distinct}
 use Rattle.fetch_store.specs.Missing.{missing_link, unstored, unknown_in}
-use Rattle.fetch_store.proofs.Ids.{id_cmp_exact}
-use Rattle.fetch_store.proofs.Orders.{cmp_at}
+use Rattle.fetch_base.proofs.Ids.{id_cmp_exact}
+use Rattle.fetch_base.proofs.Orders.{cmp_at}
 use Rattle.fetch_check.specs.declared.missing.Pair.{Pair}
 use Rattle.fetch_check.specs.contracts.missing.PairOrd.TheImpl as order
 use Rattle.fetch_check.specs.Pairs.{is_same_link, firsts_of, pair_cmp, pair_of, pairs_of, links_of, with_pairs}

@@ -3,8 +3,8 @@ use Rattle.std.proofs.Common.{◌≡◌, ℕ, suc, ◌+◌, ◌-◌, ◌≤◌, 
 use Rattle.std.specs.Prelude.{filter}
 use Rattle.std.specs.List.{list_all, slice_split, onto_first, prefix_len}
 use Rattle.std.proofs.lemmas.List.{take-append-le, take_all, reverse-append, reverse-reverse, length-reverse}
-use Rattle.fetch_store.specs.Lines.{IsWithout}
-use Rattle.fetch_store.specs.Paths.{Path, is_part, parts_of, parents_of}
+use Rattle.fetch_base.specs.Lines.{IsWithout}
+use Rattle.fetch_files.specs.Paths.{Path, is_part, parts_of, parents_of}
 use Rattle.fetch_check.specs.Keeping.{lock_of, without_slashes}
 
 abbrev is_slash : ℕ → Bool

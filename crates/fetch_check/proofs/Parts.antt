@@ -13,18 +13,20 @@ use Rattle.std.specs.FinSet as set
 use Rattle.std.proofs.lemmas.Bool.{and_parts}
 use Rattle.std.proofs.lemmas.List.Elements.{All-head, All-tail, Contains-get_or}
 use Rattle.fetch_specs.specs.Names.{is_full_name}
-use Rattle.fetch_store.specs.declared.id.ObjectId.{ObjectId}
-use Rattle.fetch_store.specs.declared.object_kind.ObjectKind.{ObjectKind}
-use Rattle.fetch_store.specs.declared.object_kind.ObjectKind.TheVariants as kinds
+use Rattle.fetch_base.specs.declared.id.ObjectId.{ObjectId}
+use Rattle.fetch_base.specs.declared.object_kind.ObjectKind.{ObjectKind}
+use Rattle.fetch_base.specs.declared.object_kind.ObjectKind.TheVariants as kinds
 use Rattle.fetch_store.specs.Borders.{IdSet, ids_of, set_of}
 use Rattle.fetch_store.specs.Closed.{Holding, IsClosed, IsStored, is_commit, IsWalk, Reached, holding, links_within, links, others}
 use Rattle.fetch_store.specs.Graph.{Node, graph_of, node_of, target_of}
-use Rattle.fetch_store.specs.Objects.{Stored, is_kind}
-use Rattle.fetch_store.specs.Stores.{ObjectMap, id_cmp, map_of}
+use Rattle.fetch_store.specs.Objects.{Stored}
+use Rattle.fetch_base.specs.Kinds.{is_kind}
+use Rattle.fetch_store.specs.Stores.{ObjectMap, map_of}
+use Rattle.fetch_base.specs.Id.{id_cmp}
 use Rattle.fetch_store.proofs.Borders.{named-Contains, Contains-named, any-filter, named-ids_of}
 use Rattle.fetch_store.proofs.Finds.{get-map_of}
 use Rattle.fetch_store.proofs.Graphs.{get-graph_of}
-use Rattle.fetch_store.proofs.Ids.{id_cmp_total, id_cmp_exact}
+use Rattle.fetch_base.proofs.Ids.{id_cmp_total, id_cmp_exact}
 use Rattle.fetch_store.proofs.Members.{first_in, later_in}
 use Rattle.fetch_store.proofs.Reaching.{reached_start, reached_closed}
 use Rattle.fetch_store.proofs.Honesty.{reached_stored}

@@ -1,8 +1,8 @@
 -- What is saved at a path is loaded, and what is begun beside it leaves what is read there.
 use Rattle.std.proofs.Common.{◌≡◌, ℕ, inl, inr, List, Option, Some, None, refl, sym, ap, subst, ◌∙◌}
 use Rattle.std.specs.Prelude.{IfSome, option_map}
-use Rattle.fetch_store.specs.Paths.{parts_of}
-use Rattle.fetch_store.specs.Trees.{Tree, read_in}
+use Rattle.fetch_files.specs.Paths.{parts_of}
+use Rattle.fetch_files.specs.Trees.{Tree, read_in}
 use Rattle.fetch_check.specs.declared.error.BundleError.{BundleError}
 use Rattle.fetch_check.specs.declared.reading.Bundle.{Bundle}
 use Rattle.fetch_check.specs.Bundles.{Bundled, bundle_text}

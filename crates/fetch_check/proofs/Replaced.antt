@@ -7,11 +7,11 @@ use Rattle.std.specs.FinMap as finmap
 use Rattle.std.specs.FinMap.{get, get-insert, get-remove}
 use Rattle.std.specs.Ordering.{eq_by_cmp, is_eq}
 use Rattle.std.specs.Cmp.{Equal-is, tied_itself}
-use Rattle.fetch_store.specs.Paths.{Path, path_cmp, is_root, parents_of, parent_of}
-use Rattle.fetch_store.specs.Trees.{Tree, node_at, is_file, is_directory, is_blocked, file_in, bytes_in, read_in, with_directory, with_each, written, moved, renamed}
-use Rattle.fetch_store.specs.declared.node.TreeNode.{TreeNode}
-use Rattle.fetch_store.specs.declared.node.TreeNode.TheVariants.{File, Directory}
-use Rattle.fetch_store.proofs.TreeChanges.{path_cmp_total, path_cmp_exact}
+use Rattle.fetch_files.specs.Paths.{Path, path_cmp, is_root, parents_of, parent_of}
+use Rattle.fetch_files.specs.Trees.{Tree, node_at, is_file, is_directory, is_blocked, file_in, bytes_in, read_in, with_directory, with_each, written, moved, renamed}
+use Rattle.fetch_files.specs.declared.node.TreeNode.{TreeNode}
+use Rattle.fetch_files.specs.declared.node.TreeNode.TheVariants.{File, Directory}
+use Rattle.fetch_files.proofs.TreeChanges.{path_cmp_total, path_cmp_exact}
 
 -- ---- what is done and isn't refused
 

@@ -4,9 +4,9 @@ use Rattle.std.specs.List.{list_any}
 use Rattle.std.proofs.lemmas.List.{append_cancel_left}
 use Rattle.std.specs.Ordering.{eq_by_cmp}
 use Rattle.std.specs.Cmp.{Equal-is}
-use Rattle.fetch_store.specs.Paths.{Path, path_cmp, is_root, parts_of}
-use Rattle.fetch_store.specs.Trees.{Tree, is_file, node_at, is_directory, is_blocked, read_in, renamed, written}
-use Rattle.fetch_store.proofs.TreeChanges.{path_cmp_exact}
+use Rattle.fetch_files.specs.Paths.{Path, path_cmp, is_root, parts_of}
+use Rattle.fetch_files.specs.Trees.{Tree, is_file, node_at, is_directory, is_blocked, read_in, renamed, written}
+use Rattle.fetch_files.proofs.TreeChanges.{path_cmp_exact}
 use Rattle.fetch_check.specs.Keeping.{lock_of, saved}
 use Rattle.fetch_check.proofs.Locks.{AreBeside, of_root, of_part, beside, same_parents}
 use Rattle.fetch_check.proofs.Replaced.{both, done, read_beside, read_replaced}

@@ -4,7 +4,7 @@ use Rattle.std.specs.Prelude.{IsTrue}
 use Rattle.std.specs.List.{list_all, slice_split, onto_first}
 use Rattle.std.proofs.lemmas.Bool.{and_parts, eqb-true}
 use Rattle.fetch_specs.specs.Names.{may_stand, is_component, components, is_name, is_full_name}
-use Rattle.fetch_store.specs.Lines.{IsWithout}
+use Rattle.fetch_base.specs.Lines.{IsWithout}
 
 abbrev is_else : ℕ → Bool
 is_else b = not (eqb b 32)

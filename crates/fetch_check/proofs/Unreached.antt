@@ -3,9 +3,10 @@ use Rattle.std.proofs.Common.{◌≡◌, List, Contains, Result, Ok, Err, sym, s
 use Rattle.std.specs.Prelude.{IfOk, ◌↔◌}
 use Rattle.std.specs.List.Sorted.{IsStrictlySortedBy}
 use Rattle.std.specs.FinMap as map
-use Rattle.fetch_store.specs.declared.id.ObjectId.{ObjectId}
+use Rattle.fetch_base.specs.declared.id.ObjectId.{ObjectId}
 use Rattle.fetch_store.specs.Closed.{Holding, IsStored, Reached}
-use Rattle.fetch_store.specs.Stores.{ObjectMap, id_cmp}
+use Rattle.fetch_store.specs.Stores.{ObjectMap}
+use Rattle.fetch_base.specs.Id.{id_cmp}
 use Rattle.fetch_store.proofs.Borders.{named-Contains, Contains-named}
 use Rattle.fetch_refs.specs.Names.{Names}
 use Rattle.fetch_check.specs.Finding.{AreUnreached, direct_ids}

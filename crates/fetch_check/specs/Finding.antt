@@ -4,12 +4,13 @@ use Rattle.std.specs.List.{filter_map}
 use Rattle.std.specs.List.Sorted.{IsStrictlySortedBy}
 use Rattle.std.specs.FinMap as map
 use Rattle.fetch_specs.specs.Names.{is_full_name}
-use Rattle.fetch_store.specs.declared.id.ObjectId.{ObjectId}
+use Rattle.fetch_base.specs.declared.id.ObjectId.{ObjectId}
 use Rattle.fetch_store.specs.declared.missing.Missing.{Missing}
 use Rattle.fetch_store.specs.Closed.{Holding, IsClosed, IsStored, Reached}
 use Rattle.fetch_store.specs.Graph.{Graph, graph_of}
 use Rattle.fetch_store.specs.Missing.{unclosed}
-use Rattle.fetch_store.specs.Stores.{ObjectMap, id_cmp}
+use Rattle.fetch_store.specs.Stores.{ObjectMap}
+use Rattle.fetch_base.specs.Id.{id_cmp}
 use Rattle.fetch_refs.specs.declared.error.RefError.{RefError}
 use Rattle.fetch_refs.specs.declared.error.RefError.TheVariants as errors
 use Rattle.fetch_refs.specs.declared.target.Target.{Target}

@@ -1,6 +1,6 @@
 -- Why a bundle isn't saved or loaded.
 use Rattle.std.specs.Prelude.{ℕ, Bool, true, false, Result, Ok, Err}
-use Rattle.fetch_store.specs.Calls.{one_more}
+use Rattle.fetch_base.specs.Calls.{one_more}
 use Rattle.fetch_check.specs.declared.error.BundleError.{BundleError}
 use Rattle.fetch_check.specs.declared.error.BundleError.TheVariants as bundles
 use Rattle.fetch_check.specs.declared.keep_error.KeepError.{KeepError}

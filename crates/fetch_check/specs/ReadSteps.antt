@@ -1,7 +1,7 @@
 -- The steps of reading a bundle.
 use Rattle.std.specs.Prelude.{◌≡◌, ℕ, Bool, true, false, List, [], ◌∷◌, ◌++◌, length, map, Err}
 use Rattle.std.specs.List.{AllByRecursion, concat}
-use Rattle.fetch_store.specs.declared.id.Kind.{Kind}
+use Rattle.fetch_base.specs.declared.id.Kind.{Kind}
 use Rattle.fetch_store.specs.Borders.{IdSet}
 use Rattle.fetch_pack.specs.Reading.{Contents}
 use Rattle.fetch_refs.specs.Names.{Names}

@@ -5,13 +5,14 @@ use Rattle.std.specs.List.{AllByRecursion, starts_with}
 use Rattle.std.specs.List.Sorted.{IsStrictlySortedBy}
 use Rattle.std.specs.Map.{keys_of}
 use Rattle.std.specs.FinMap as finmap
-use Rattle.fetch_store.specs.Answers.{AnswersBy}
-use Rattle.fetch_store.specs.declared.id.Kind.{Kind}
-use Rattle.fetch_store.specs.declared.id.ObjectId.{ObjectId}
+use Rattle.fetch_base.specs.Answers.{AnswersBy}
+use Rattle.fetch_base.specs.declared.id.Kind.{Kind}
+use Rattle.fetch_base.specs.declared.id.ObjectId.{ObjectId}
 use Rattle.fetch_store.specs.Borders.{IdSet, ids_of}
 use Rattle.fetch_store.specs.Closed.{holding}
-use Rattle.fetch_store.specs.Hashing.{digest}
-use Rattle.fetch_store.specs.Stores.{Entries, id_cmp, map_of}
+use Rattle.fetch_base.specs.Hashing.{digest}
+use Rattle.fetch_store.specs.Stores.{Entries, map_of}
+use Rattle.fetch_base.specs.Id.{id_cmp}
 use Rattle.fetch_pack.specs.declared.error.PackError.{PackError}
 use Rattle.fetch_pack.specs.declared.error.PackError.TheVariants as packs
 use Rattle.fetch_pack.specs.declared.version.PackVersion.TheVariants.{V1, V2}

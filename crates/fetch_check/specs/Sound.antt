@@ -1,7 +1,7 @@
 -- Repositories of one hash.
 use Rattle.std.specs.List.{AllByRecursion}
 use Rattle.std.specs.FinMap as finmap
-use Rattle.fetch_store.specs.declared.id.Kind.{Kind}
+use Rattle.fetch_base.specs.declared.id.Kind.{Kind}
 use Rattle.fetch_store.specs.Borders.{ids_of}
 use Rattle.fetch_store.specs.Closed.{AreAllOf, Holding}
 use Rattle.fetch_reach.specs.Named.{AreObjects, AreOwnIds}

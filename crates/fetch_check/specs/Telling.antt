@@ -1,9 +1,9 @@
 -- Findings as a text.
 use Rattle.std.specs.Prelude.{ℕ, ◌+◌, ◌==◌, List, [], ◌∷◌, ◌++◌, length, codes, decimal, if◌then◌else◌}
 use Rattle.std.specs.List.{flat_map}
-use Rattle.fetch_store.specs.declared.id.ObjectId.{ObjectId}
+use Rattle.fetch_base.specs.declared.id.ObjectId.{ObjectId}
 use Rattle.fetch_store.specs.declared.missing.Missing.{Missing}
-use Rattle.fetch_store.specs.Digits.{hex_of}
+use Rattle.fetch_base.specs.Digits.{hex_of}
 use Rattle.fetch_check.specs.declared.findings.Broken.{Broken}
 use Rattle.fetch_check.specs.declared.findings.BrokenCause.{BrokenCause}
 use Rattle.fetch_check.specs.declared.findings.BrokenCause.TheVariants.{Cycle, Depth, MissingObject, TagCycle}

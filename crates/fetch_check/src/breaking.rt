@@ -1,8 +1,8 @@
 //! References that lead to no stored object.
 
 ghost use Rattle.std.specs.Prelude.{◌≡◌, IfOk, Result, slice_get};
-ghost use Rattle.fetch_store.specs.declared.id.ObjectId.{ObjectId as Id};
-ghost use Rattle.fetch_store.specs.Answers.{AnswersUnless};
+ghost use Rattle.fetch_base.specs.declared.id.ObjectId.{ObjectId as Id};
+ghost use Rattle.fetch_base.specs.Answers.{AnswersUnless};
 ghost use Rattle.fetch_store.specs.Graph.{graph_of};
 ghost use Rattle.fetch_refs.specs.Answers.{is_memory};
 ghost use Rattle.fetch_refs.specs.TagEnds.{AreEnds};

@@ -2,15 +2,15 @@
 
 ghost use Rattle.std.specs.Prelude.{◌≡◌, ◌↔◌, List, Option, [], ℕ, Ok, None, Some, false, Contains, IfSome, length, option_map};
 ghost use Rattle.std.specs.FinMap as map;
-ghost use Rattle.fetch_store.specs.declared.id.Kind.{Kind};
-ghost use Rattle.fetch_store.specs.declared.id.ObjectId.{ObjectId};
+ghost use Rattle.fetch_base.specs.declared.id.Kind.{Kind};
+ghost use Rattle.fetch_base.specs.declared.id.ObjectId.{ObjectId};
 ghost use Rattle.fetch_store.specs.declared.missing.Missing.{Missing};
 ghost use Rattle.fetch_store.specs.Closed.{AreAllOf, Holding, IsClosed};
 ghost use Rattle.fetch_store.specs.Graph.{Graph};
-ghost use Rattle.fetch_store.specs.Hashing as hashing;
+ghost use Rattle.fetch_base.specs.Hashing as hashing;
 ghost use Rattle.fetch_store.specs.Missing.{unclosed};
-ghost use Rattle.fetch_store.specs.Paths.{parts_of};
-ghost use Rattle.fetch_store.specs.Trees.{Tree, read_in};
+ghost use Rattle.fetch_files.specs.Paths.{parts_of};
+ghost use Rattle.fetch_files.specs.Trees.{Tree, read_in};
 ghost use Rattle.fetch_pack.specs.Reading.{read};
 ghost use Rattle.fetch_pack.specs.Records.{Fits, body, payloads_of};
 ghost use Rattle.fetch_pack.specs.declared.version.PackVersion.TheVariants.{V2};

@@ -3,10 +3,10 @@
 ghost use Rattle.std.specs.Prelude.{◌≡◌, ◌++◌, ◌∷◌, ℕ, [], List as Items, None, Some, Ok, IfOk, IfSome, IsTrue, codes};
 ghost use Rattle.std.specs.Option.{option_copied};
 ghost use Rattle.fetch_specs.specs.Names.{is_full_name};
-ghost use Rattle.fetch_store.specs.Digits.{hex_of};
-ghost use Rattle.fetch_store.specs.Id.{id_in_hex};
-ghost use Rattle.fetch_store.specs.Lines.{IsWithout};
-ghost use Rattle.fetch_store.specs.declared.id.ObjectId.{ObjectId as Id};
+ghost use Rattle.fetch_base.specs.Digits.{hex_of};
+ghost use Rattle.fetch_base.specs.Id.{id_in_hex};
+ghost use Rattle.fetch_base.specs.Lines.{IsWithout};
+ghost use Rattle.fetch_base.specs.declared.id.ObjectId.{ObjectId as Id};
 ghost use Rattle.fetch_refs.specs.declared.target.Target.{Target as Leads};
 ghost use Rattle.fetch_check.specs.Bundles.{target_text};
 ghost use Rattle.fetch_check.specs.Payloads.{IsTarget, TellsBorder, TellsReference};

@@ -6,7 +6,7 @@ ghost use Rattle.std.specs.List.Sorted.{IsStrictlySortedBy};
 ghost use Rattle.std.specs.Ordering.{is_lt};
 ghost use Rattle.fetch_store.specs.Closed.{IsClosed, holding};
 ghost use Rattle.fetch_store.specs.References.{seen};
-ghost use Rattle.fetch_store.specs.Stores.{id_cmp};
+ghost use Rattle.fetch_base.specs.Id.{id_cmp};
 ghost use Rattle.fetch_check.specs.Finding.{AreAllReached, IsWholeIn, broken_of};
 
 use crate::breaking::first_broken;

@@ -4,11 +4,11 @@ ghost use Rattle.std.specs.Prelude.{◌≡◌, ◌<◌, ◌^◌, ◌++◌, ◌�
 ghost use Rattle.std.specs.Prelude.{IfOk, OnOk, OnErr};
 ghost use Rattle.std.specs.FinMap as map;
 ghost use Rattle.std.specs.List.Sorted.{IsStrictlySortedBy};
-ghost use Rattle.fetch_store.specs.Answers.{RefusesUnless};
+ghost use Rattle.fetch_base.specs.Answers.{RefusesUnless};
 ghost use Rattle.fetch_store.specs.Borders.{ids_of};
 ghost use Rattle.fetch_store.specs.Closed.{holding};
-ghost use Rattle.fetch_store.specs.declared.id.ObjectId.{ObjectId as Id};
-ghost use Rattle.fetch_store.specs.Stores.{id_cmp};
+ghost use Rattle.fetch_base.specs.declared.id.ObjectId.{ObjectId as Id};
+ghost use Rattle.fetch_base.specs.Id.{id_cmp};
 ghost use Rattle.fetch_pack.specs.Records.{pack_text, payloads_of};
 ghost use Rattle.fetch_pack.specs.Texts.{Keeps};
 ghost use Rattle.fetch_pack.specs.declared.version.PackVersion.TheVariants.{V2};

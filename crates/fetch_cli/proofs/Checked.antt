@@ -1,6 +1,6 @@
 -- All that is found in a repository is one value.
 use Rattle.std.proofs.Common.{◌≡◌, ℕ, List, sym, ap, ◌∙◌}
-use Rattle.fetch_store.specs.declared.id.ObjectId.{ObjectId}
+use Rattle.fetch_base.specs.declared.id.ObjectId.{ObjectId}
 use Rattle.fetch_store.specs.Borders.{ids_of}
 use Rattle.fetch_store.specs.Closed.{Holding, holding}
 use Rattle.fetch_store.proofs.Borders.{ids_of-set, same_sets}

@@ -18,12 +18,12 @@ use Rattle.std.proofs.lemmas.List.Elements.{filter-append}
 use Rattle.std.proofs.lemmas.List.Folds.{list_all-append}
 use Rattle.std.proofs.lemmas.List.Splits.{length-slice_split}
 use Rattle.hex.specs.Hex.{lower_digits, encode_with, encode_lower}
-use Rattle.fetch_store.specs.Lines.{IsWithout}
-use Rattle.fetch_store.specs.Paths.{Path, path_cmp, is_root, is_part, parts_of, parents_of, parent_of, after_path}
-use Rattle.fetch_store.specs.Trees.{Tree, node_at, is_file, is_directory, is_blocked, with_directory, with_each, written, name_behind, names_in}
-use Rattle.fetch_store.specs.declared.node.TreeNode.TheVariants.{File, Directory}
-use Rattle.fetch_store.specs.Id.{bytes_of}
-use Rattle.fetch_store.specs.declared.id.ObjectId.{ObjectId}
+use Rattle.fetch_base.specs.Lines.{IsWithout}
+use Rattle.fetch_files.specs.Paths.{Path, path_cmp, is_root, is_part, parts_of, parents_of, parent_of, after_path}
+use Rattle.fetch_files.specs.Trees.{Tree, node_at, is_file, is_directory, is_blocked, with_directory, with_each, written, name_behind, names_in}
+use Rattle.fetch_files.specs.declared.node.TreeNode.TheVariants.{File, Directory}
+use Rattle.fetch_base.specs.Id.{bytes_of}
+use Rattle.fetch_base.specs.declared.id.ObjectId.{ObjectId}
 use Rattle.fetch_conversation.specs.Conversation.{answer_in}
 use Rattle.fetch_conversation.specs.declared.fetch.Error.{Error as ReceiveError}
 use Rattle.fetch_remote.specs.Fetching.{keep_made, keep_left_by, keep_left_in, taken_in}
@@ -35,8 +35,8 @@ use Rattle.fetch_remote.specs.Applying.{pack_read, standing}
 use Rattle.fetch_remote.specs.Stages.{Told, bound_of, conversation}
 use Rattle.fetch_remote.specs.declared.fetching.fetch_error.FetchError.{FetchError}
 use Rattle.fetch_cli.specs.KeepFiles.{packs_of, first_kept}
-use Rattle.fetch_store.proofs.Rooted.{written_rooted, none_rooted}
-use Rattle.fetch_store.proofs.TreeChanges.{path_cmp_total, path_cmp_exact}
+use Rattle.fetch_files.proofs.Rooted.{written_rooted, none_rooted}
+use Rattle.fetch_files.proofs.TreeChanges.{path_cmp_total, path_cmp_exact}
 
 -- ---- parts of paths
 

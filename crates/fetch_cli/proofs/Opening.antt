@@ -1,7 +1,7 @@
 -- References that are put in place by edits which aren't logged.
 use Rattle.std.proofs.Common.{◌≡◌, ℕ, Bool, true, false, ◌&&◌, List, [], ◌∷◌, Option, map, refl, ap, ◌∙◌}
 use Rattle.std.specs.FinMap as finmap
-use Rattle.fetch_store.specs.declared.id.Kind.{Kind}
+use Rattle.fetch_base.specs.declared.id.Kind.{Kind}
 use Rattle.fetch_refs.specs.Edits.{refs_after, changed}
 use Rattle.fetch_refs.specs.Logs.{Logging, logs_after, updated, gets_line, after}
 use Rattle.fetch_refs.specs.Names.{Names, Logs, PackedList}

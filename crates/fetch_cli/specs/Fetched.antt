@@ -1,7 +1,7 @@
 -- A fetch with these worktrees, from a peer that says these bytes, over files that begin with nothing; none of them fails.
 use Rattle.std.specs.Prelude.{◌≡◌, ℕ, List, Some, Result, Ok, Err, ⊤}
 use Rattle.std.specs.FinMap as map
-use Rattle.fetch_store.specs.Trees.{Tree}
+use Rattle.fetch_files.specs.Trees.{Tree}
 use Rattle.fetch_update.specs.declared.worktrees.Worktree.{Worktree}
 use Rattle.fetch_wire.specs.Written.{lines_text}
 use Rattle.fetch_remote.specs.Fetching.{fetched_in, requests_in, left_in, keep_left_in}

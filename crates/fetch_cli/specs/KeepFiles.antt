@@ -1,8 +1,8 @@
 -- The keep file that stands in a git directory.
 use Rattle.std.specs.Prelude.{ℕ, List, Option, codes, slice_get}
 use Rattle.std.specs.Option.{option_map, option_and_then}
-use Rattle.fetch_store.specs.Paths.{parts_of}
-use Rattle.fetch_store.specs.Trees.{Tree, names_in}
+use Rattle.fetch_files.specs.Paths.{parts_of}
+use Rattle.fetch_files.specs.Trees.{Tree, names_in}
 use Rattle.fetch_remote.specs.Paths.{in_directory}
 
 -- where packs and their keep files stand

@@ -8,7 +8,7 @@ use Rattle.fetch_update.specs.declared.mode.TypeChange.{TypeChange}
 use Rattle.fetch_update.specs.declared.mode.TypeChange.TheVariants as changes
 use Rattle.fetch_update.specs.declared.update.Update.{Update}
 use Rattle.fetch_update.specs.Modes.{mode_text}
-use Rattle.fetch_store.specs.Digits.{hex_of}
+use Rattle.fetch_base.specs.Digits.{hex_of}
 
 -- a name, or the digits of an id
 abbrev pub source_text : Source → List ℕ

@@ -1,6 +1,6 @@
 -- A source and a sink in memory, as contracts see them.
 use Rattle.std.specs.Prelude.{ℕ, List}
-use Rattle.fetch_store.specs.Calls.{CallList}
+use Rattle.fetch_base.specs.Calls.{CallList}
 
 -- the bytes that are left, the calls, and how many failed
 pub record SourceValue : Type 0 where

@@ -3,7 +3,7 @@ use Rattle.std.specs.Prelude.{◌≡◌, ◌≢◌, ℕ, pos, List, [], ◌∷�
 use Rattle.std.specs.FinMap as map
 use Rattle.std.specs.List.{concat, flat_map, slice_get}
 use Rattle.fetch_config.specs.Contents.{Contents}
-use Rattle.fetch_store.specs.declared.id.Kind.{Kind}
+use Rattle.fetch_base.specs.declared.id.Kind.{Kind}
 use Rattle.fetch_store.specs.Borders.{IdSet, ids_of}
 use Rattle.fetch_store.specs.Stores.{Entries, add_all}
 use Rattle.fetch_specs.specs.Names.{is_full_name}

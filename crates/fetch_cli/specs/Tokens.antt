@@ -3,8 +3,8 @@
 use Rattle.std.specs.Prelude.{ℕ, List, ◌++◌, codes, decimal, Option, Some, None}
 use Rattle.fetch_pack.specs.declared.error.PackError.{PackError}
 use Rattle.fetch_pack.specs.declared.error.PackError.TheVariants as pack
-use Rattle.fetch_store.specs.declared.id.Kind.{Kind}
-use Rattle.fetch_store.specs.declared.id.Kind.TheVariants.{Sha1, Sha256}
+use Rattle.fetch_base.specs.declared.id.Kind.{Kind}
+use Rattle.fetch_base.specs.declared.id.Kind.TheVariants.{Sha1, Sha256}
 use Rattle.fetch_refs.specs.declared.error.RefError.{RefError}
 use Rattle.fetch_refs.specs.declared.error.RefError.TheVariants as refs
 use Rattle.fetch_refs.specs.declared.target.Target.{Target}
@@ -20,7 +20,7 @@ use Rattle.fetch_conversation.specs.declared.prepare.Error.{Error as PrepareErro
 use Rattle.fetch_conversation.specs.declared.prepare.Error.TheVariants as prepare
 use Rattle.fetch_conversation.specs.declared.ref_map.Error.{Error as RefMapError}
 use Rattle.fetch_conversation.specs.declared.ref_map.Error.TheVariants as ref_map
-use Rattle.fetch_store.specs.Digits.{hex_of}
+use Rattle.fetch_base.specs.Digits.{hex_of}
 use Rattle.fetch_cli.specs.ReportLines.{target_text}
 
 -- a name and what it keeps, with a space between

@@ -1,7 +1,7 @@
 -- What a run writes, and what blames its ends, by its status.
 use Rattle.std.specs.Prelude.{◌≡◌, ◌≤◌, ◌⊎◌, ℕ, List, Option}
 use Rattle.std.specs.Io.KnownBytes.{Appends}
-use Rattle.fetch_store.specs.Faults.{Faults, Rose, Counts}
+use Rattle.fetch_base.specs.Faults.{Faults, Rose, Counts}
 use Rattle.fetch_cli.specs.Io.{IsFront}
 
 -- The statuses of answers: all was done, something was refused, or the words or the scene are malformed.

@@ -2,8 +2,8 @@
 use Rattle.std.proofs.Common.{◌≡◌, ℕ, Bool, true, false, List, [], ◌∷◌, Option, Some, None, Result, Ok, Err, refl, inl, inr}
 use Rattle.std.specs.Bool.{OnFalse}
 use Rattle.std.specs.Prelude.{IfErr, IfOk, OnOk}
-use Rattle.fetch_store.specs.Faults.{Faults, Rose}
-use Rattle.fetch_store.specs.Trees.{Tree}
+use Rattle.fetch_base.specs.Faults.{Faults, Rose}
+use Rattle.fetch_files.specs.Trees.{Tree}
 use Rattle.fetch_lookup.specs.declared.direction.Direction.TheVariants.{Fetch}
 use Rattle.fetch_update.specs.declared.worktrees.Worktree.{Worktree}
 use Rattle.fetch_wire.specs.Talks.{Talk}

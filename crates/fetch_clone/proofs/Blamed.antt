@@ -1,6 +1,6 @@
 -- Who is blamed by a part of a listing, and so by the whole.
 use Rattle.std.proofs.Common.{◌≡◌, ◌≤◌, ◌+◌, ℕ, Result, Ok, Err, refl, ap, arith}
-use Rattle.fetch_store.specs.Faults.{Faults, Counts, Rose, Counts-none, Counts-then}
+use Rattle.fetch_base.specs.Faults.{Faults, Counts, Rose, Counts-none, Counts-then}
 use Rattle.fetch_conversation.specs.declared.prepare.Error.{Error as PrepareError}
 use Rattle.fetch_conversation.specs.declared.prepare.Error.TheVariants as prepare
 use Rattle.fetch_remote.specs.declared.connect.Error.{Error as ConnectError}

@@ -1,10 +1,10 @@
 -- `HEAD` takes nothing, or takes what it is aimed at and then isn't saved.
 use Rattle.std.proofs.Common.{◌≡◌, ℕ, Bool, true, false, List, Option, Result, Ok, Err, inl, inr, refl, sym, subst, ◌∙◌}
 use Rattle.std.specs.Prelude.{is_some, IfErr, IfSome, OnErr}
-use Rattle.fetch_store.specs.FileCalls.{IsRefused}
-use Rattle.fetch_store.specs.Paths.{parts_of}
+use Rattle.fetch_files.specs.FileCalls.{IsRefused}
+use Rattle.fetch_files.specs.Paths.{parts_of}
 use Rattle.std.specs.Bool.{OnFalse}
-use Rattle.fetch_store.specs.Trees.{Tree, written}
+use Rattle.fetch_files.specs.Trees.{Tree, written}
 use Rattle.fetch_config.specs.Contents.{Contents}
 use Rattle.fetch_config.specs.Print.{text_of}
 use Rattle.fetch_remote.specs.Paths.{config_path}

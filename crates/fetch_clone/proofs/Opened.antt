@@ -2,10 +2,10 @@
 use Rattle.std.proofs.Common.{◌≡◌, Bool, List, Option, Some, Result, Ok, Err, IfErr, IsTrue, refl, ap, ◌∙◌}
 use Rattle.std.specs.Prelude.{is_some}
 use Rattle.std.proofs.lemmas.Bool.{false≢true}
-use Rattle.fetch_store.specs.FileCalls.{IsRefused}
-use Rattle.fetch_store.specs.Faults.{Faults, Rose}
-use Rattle.fetch_store.specs.Paths.{parts_of}
-use Rattle.fetch_store.specs.Trees.{Tree, read_in}
+use Rattle.fetch_files.specs.FileCalls.{IsRefused}
+use Rattle.fetch_base.specs.Faults.{Faults, Rose}
+use Rattle.fetch_files.specs.Paths.{parts_of}
+use Rattle.fetch_files.specs.Trees.{Tree, read_in}
 use Rattle.fetch_config.specs.Contents.{Contents}
 use Rattle.fetch_remote.specs.Reloads.{IsRefusedAt}
 use Rattle.fetch_remote.specs.Repositories.{IsOpenRefusal, setup_in}

@@ -2,11 +2,11 @@
 use Rattle.std.proofs.Common.{◌≡◌, ℕ, Bool, false, List, inl, inr, Option, IsTrue}
 use Rattle.std.specs.Prelude.{OnErr, Result, Ok, Err}
 use Rattle.std.proofs.lemmas.Bool.{false≢true}
-use Rattle.fetch_store.specs.FileCalls.{Changes, IsRefused}
-use Rattle.fetch_store.specs.Paths.{parts_of}
-use Rattle.fetch_store.specs.declared.file_error.Failed.{Failed}
-use Rattle.fetch_store.specs.Faults.{Faults, Counts, Rose}
-use Rattle.fetch_store.specs.Trees.{Tree, without_all}
+use Rattle.fetch_files.specs.FileCalls.{Changes, IsRefused}
+use Rattle.fetch_files.specs.Paths.{parts_of}
+use Rattle.fetch_base.specs.declared.failed.Failed.{Failed}
+use Rattle.fetch_base.specs.Faults.{Faults, Counts, Rose}
+use Rattle.fetch_files.specs.Trees.{Tree, without_all}
 use Rattle.fetch_remote.specs.Finding.{is_no_address}
 use Rattle.fetch_clone.specs.CloneStates.{IsNoted, IsPrepareRefusal, IsRemoved, init_refusal, is_clone_fault, strict}
 use Rattle.fetch_clone.specs.Initial.{IsInitRefusal, is_init_fault, new_of}

@@ -1,8 +1,8 @@
 -- What a hash that a clone takes leaves as it was.
 use Rattle.std.proofs.Common.{◌≡◌, Bool, Option, Some, None, refl, sym, ◌∙◌, subst, inl, inr}
 use Rattle.std.specs.Prelude.{◌⊎◌}
-use Rattle.fetch_store.specs.Trees.{Tree}
-use Rattle.fetch_store.specs.declared.id.Kind.{Kind}
+use Rattle.fetch_files.specs.Trees.{Tree}
+use Rattle.fetch_base.specs.declared.id.Kind.{Kind}
 use Rattle.fetch_wire.specs.Talks.{Talk}
 use Rattle.fetch_remote.specs.Remotes.{RemoteValue}
 use Rattle.fetch_remote.specs.RepositoryValues.{RepositoryValue, Setup, resolved_of}

@@ -1,9 +1,9 @@
 -- A file that was read, and couldn't be written for another hash.
 use Rattle.std.proofs.Common.{◌≡◌, Bool, Option, Some, refl, subst}
-use Rattle.fetch_store.specs.FileCalls.{IsRefused}
-use Rattle.fetch_store.specs.Paths.{parts_of}
-use Rattle.fetch_store.specs.Trees.{Tree, written}
-use Rattle.fetch_store.specs.declared.id.Kind.{Kind}
+use Rattle.fetch_files.specs.FileCalls.{IsRefused}
+use Rattle.fetch_files.specs.Paths.{parts_of}
+use Rattle.fetch_files.specs.Trees.{Tree, written}
+use Rattle.fetch_base.specs.declared.id.Kind.{Kind}
 use Rattle.fetch_config.specs.Contents.{Contents}
 use Rattle.fetch_config.specs.Print.{text_of}
 use Rattle.fetch_remote.specs.RepositoryValues.{Setup}

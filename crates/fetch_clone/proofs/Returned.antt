@@ -1,8 +1,8 @@
 -- A peer that is taken back counts as lost where it failed.
 use Rattle.std.proofs.Common.{◌≡◌, ◌≤◌, Bool, true, false, refl, arith, eqb-true}
 use Rattle.std.specs.Prelude.{◌==◌, if◌then◌else◌, max}
-use Rattle.fetch_store.specs.Calls.{one_more}
-use Rattle.fetch_store.specs.Faults.{Faults, Rose}
+use Rattle.fetch_base.specs.Calls.{one_more}
+use Rattle.fetch_base.specs.Faults.{Faults, Rose}
 use Rattle.fetch_remote.specs.Connecting.{with_lost}
 
 later-at : (lost : Faults) (fresh : Bool) → lost.count ≤ (if fresh then lost else record lost { count = max lost.count (one_more lost.count) }).count

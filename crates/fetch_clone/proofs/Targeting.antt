@@ -1,7 +1,7 @@
 -- What a first connection lists, and what it aims at.
 use Rattle.std.proofs.Common.{◌≡◌, ℕ, Bool, true, false, List, Option, Some, None, Result, Ok, Err, refl, sym, subst, inr}
 use Rattle.std.specs.Prelude.{IfErr, IfOk}
-use Rattle.fetch_store.specs.Faults.{Faults}
+use Rattle.fetch_base.specs.Faults.{Faults}
 use Rattle.fetch_conversation.specs.ListStage.{ListedValue}
 use Rattle.fetch_conversation.specs.declared.ref_map.Error.{Error as MapError}
 use Rattle.fetch_conversation.specs.declared.ref_map.Options.{Options}

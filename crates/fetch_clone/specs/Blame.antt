@@ -1,6 +1,6 @@
 -- Who a listing of a clone blames: the maker of its peers, or the interrupt, and only where its own count rose.
 use Rattle.std.specs.Prelude.{◌≡◌, ◌≤◌, ℕ, Result, IsErrOf, OnOk}
-use Rattle.fetch_store.specs.Faults.{Faults, Rose, Counts}
+use Rattle.fetch_base.specs.Faults.{Faults, Rose, Counts}
 use Rattle.fetch_conversation.specs.declared.prepare.Error.TheVariants as prepare
 use Rattle.fetch_conversation.specs.declared.ref_map.Error.TheVariants as ref_map
 use Rattle.fetch_clone.specs.Heeded.{SaysNo}

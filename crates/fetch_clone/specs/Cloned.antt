@@ -1,9 +1,9 @@
 -- A clone that was fetched into, or wasn't.
 use Rattle.std.specs.Prelude.{◌≡◌, ◌⊎◌, ℕ, Bool, List, Option, Some, None}
-use Rattle.fetch_store.specs.Faults.{Faults, Counts}
-use Rattle.fetch_store.specs.Trees.{Tree}
-use Rattle.fetch_store.specs.declared.id.Kind.{Kind}
-use Rattle.fetch_store.specs.declared.id.Kind.TheVariants as hashes
+use Rattle.fetch_base.specs.Faults.{Faults, Counts}
+use Rattle.fetch_files.specs.Trees.{Tree}
+use Rattle.fetch_base.specs.declared.id.Kind.{Kind}
+use Rattle.fetch_base.specs.declared.id.Kind.TheVariants as hashes
 use Rattle.fetch_config.specs.Contents.{Contents}
 use Rattle.fetch_update.specs.declared.worktrees.Worktree.{Worktree}
 use Rattle.fetch_wire.specs.declared.listings.mapping.RefMap.{RefMap}

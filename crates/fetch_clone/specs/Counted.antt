@@ -1,6 +1,6 @@
 -- Refusals of a clone that come only where a count rose.
 use Rattle.std.specs.Prelude.{◌≡◌, ◌≤◌, false, ⊤, Result, Ok, Err}
-use Rattle.fetch_store.specs.Faults.{Faults, Counts, Rose}
+use Rattle.fetch_base.specs.Faults.{Faults, Counts, Rose}
 use Rattle.fetch_update.specs.declared.update.Error.TheVariants as update
 use Rattle.fetch_conversation.specs.declared.fetch.Error.TheVariants as fetch
 use Rattle.fetch_conversation.specs.declared.prepare.Error.TheVariants as prepare

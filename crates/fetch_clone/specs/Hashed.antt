@@ -1,9 +1,9 @@
 -- A repository without ids takes the hash of what was listed.
 use Rattle.std.specs.Prelude.{◌≡◌, ◌≢◌, ◌⊎◌, Bool, Option, Some, None, ⊤}
-use Rattle.fetch_store.specs.declared.id.Kind.{Kind}
-use Rattle.fetch_store.specs.FileCalls.{IsRefused}
-use Rattle.fetch_store.specs.Paths.{parts_of}
-use Rattle.fetch_store.specs.Trees.{Tree, read_in, written}
+use Rattle.fetch_base.specs.declared.id.Kind.{Kind}
+use Rattle.fetch_files.specs.FileCalls.{IsRefused}
+use Rattle.fetch_files.specs.Paths.{parts_of}
+use Rattle.fetch_files.specs.Trees.{Tree, read_in, written}
 use Rattle.fetch_config.specs.Contents.{Contents}
 use Rattle.fetch_config.specs.Print.{text_of}
 use Rattle.fetch_remote.specs.Hashing.{HasNoIds, of_hash, with_kind}

@@ -5,7 +5,7 @@ use Rattle.std.specs.FinMap as finmap
 use Rattle.std.specs.Option.{option_and_then}
 use Rattle.std.specs.Str.{bytes_eq}
 use Rattle.fetch_store.specs.Graph.{Graph, is_commit_at}
-use Rattle.fetch_store.specs.declared.id.ObjectId.{ObjectId}
+use Rattle.fetch_base.specs.declared.id.ObjectId.{ObjectId}
 use Rattle.fetch_specs.specs.Names.{is_full_name}
 use Rattle.fetch_specs.specs.Specs.{Spec}
 use Rattle.fetch_refs.specs.Peeled.{through}

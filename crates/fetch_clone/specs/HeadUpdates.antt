@@ -1,10 +1,10 @@
 -- A repository whose `HEAD` takes what a remote listed.
 use Rattle.std.specs.Prelude.{◌≡◌, ℕ, Bool, List, [], Option, Some, None, IfSome, Result, Ok, Err, ⊤, ◌⊎◌}
 use Rattle.std.specs.Option.{option_map}
-use Rattle.fetch_store.specs.FileCalls.{IsRefused}
+use Rattle.fetch_files.specs.FileCalls.{IsRefused}
 use Rattle.fetch_store.specs.Graph.{graph_of}
-use Rattle.fetch_store.specs.Paths.{parts_of}
-use Rattle.fetch_store.specs.Trees.{Tree, written}
+use Rattle.fetch_files.specs.Paths.{parts_of}
+use Rattle.fetch_files.specs.Trees.{Tree, written}
 use Rattle.fetch_specs.specs.Specs.{Spec}
 use Rattle.fetch_config.specs.Contents.{Contents}
 use Rattle.fetch_config.specs.Print.{text_of}

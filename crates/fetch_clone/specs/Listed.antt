@@ -3,7 +3,7 @@ use Rattle.std.specs.Prelude.{◌≡◌, ◌⊎◌, ℕ, Bool, true, false, not,
 use Rattle.std.specs.Prelude.{None, slice_get, Ok}
 use Rattle.std.specs.List.{list_any}
 use Rattle.std.specs.Str.{bytes_eq}
-use Rattle.fetch_store.specs.Faults.{Faults, Counts}
+use Rattle.fetch_base.specs.Faults.{Faults, Counts}
 use Rattle.fetch_update.specs.Policy.{is_forced}
 use Rattle.fetch_wire.specs.Talks.{Talk}
 use Rattle.fetch_specs.specs.Parses.{parsed}

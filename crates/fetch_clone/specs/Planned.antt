@@ -1,6 +1,6 @@
 -- The remote that a clone fetches by, as it is to be saved.
 use Rattle.std.specs.Prelude.{◌≡◌, ◌⊎◌, ℕ, not, List, [], ◌∷◌, ◌++◌, find, Option, Some, None, ⊤, Result, Ok, Err}
-use Rattle.fetch_store.specs.Faults.{Faults}
+use Rattle.fetch_base.specs.Faults.{Faults}
 use Rattle.fetch_specs.specs.Parses.{parsed}
 use Rattle.fetch_specs.specs.Specs.{Spec}
 use Rattle.fetch_specs.specs.declared.operation.Operation.TheVariants.{Fetch}

@@ -1,7 +1,7 @@
 -- What a clone's peer listed is fetched, and the peer is taken back.
 use Rattle.std.specs.Prelude.{◌≡◌, ◌⊎◌, ℕ, Bool, true, false, List, ◌++◌, codes, Option, Some, None, is_some, ⊤, Ok, Err}
-use Rattle.fetch_store.specs.FileCalls.{IsRefused as IsBlocked}
-use Rattle.fetch_store.specs.Trees.{Tree}
+use Rattle.fetch_files.specs.FileCalls.{IsRefused as IsBlocked}
+use Rattle.fetch_files.specs.Trees.{Tree}
 use Rattle.fetch_update.specs.declared.message.RefLogMessage.TheVariants.{Override}
 use Rattle.fetch_update.specs.declared.worktrees.Worktree.{Worktree}
 use Rattle.fetch_wire.specs.Talks.{Talk}

@@ -1,8 +1,8 @@
 -- A remote's section is written into the file `config` of a repository.
 use Rattle.std.specs.Prelude.{◌≡◌, ◌⊎◌, ℕ, Bool, List, [], Option, ⊤, Ok, Err}
-use Rattle.fetch_store.specs.FileCalls.{IsRefused}
-use Rattle.fetch_store.specs.Paths.{parts_of as parts_of_path}
-use Rattle.fetch_store.specs.Trees.{Tree, read_in, written}
+use Rattle.fetch_files.specs.FileCalls.{IsRefused}
+use Rattle.fetch_files.specs.Paths.{parts_of as parts_of_path}
+use Rattle.fetch_files.specs.Trees.{Tree, read_in, written}
 use Rattle.fetch_config.specs.Contents.{Contents}
 use Rattle.fetch_config.specs.Print.{text_of}
 use Rattle.fetch_lookup.specs.Saved.{saved, save_as_verdict}

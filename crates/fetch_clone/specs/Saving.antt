@@ -1,7 +1,7 @@
 -- A clone's remote is named, chosen and saved.
 use Rattle.std.specs.Prelude.{◌≡◌, ◌⊎◌, ℕ, Bool, not, ◌&&◌, List, Option, is_none, if◌then◌else◌}
-use Rattle.fetch_store.specs.Faults.{Faults}
-use Rattle.fetch_store.specs.Trees.{Tree}
+use Rattle.fetch_base.specs.Faults.{Faults}
+use Rattle.fetch_files.specs.Trees.{Tree}
 use Rattle.fetch_lookup.specs.Saved.{valid_name}
 use Rattle.fetch_specs.specs.declared.tags.Tags.TheVariants as tags
 use Rattle.fetch_remote.specs.Remotes.{RemoteValue, renamed}

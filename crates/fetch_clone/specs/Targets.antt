@@ -1,6 +1,6 @@
 -- The reference that a clone of another depth is of, as a first connection lists it.
 use Rattle.std.specs.Prelude.{◌≡◌, ◌⊎◌, ℕ, Bool, true, false, List, [], ◌∷◌, codes, Option, Some, None, is_some, unwrap_or, Result, Ok, ⊤}
-use Rattle.fetch_store.specs.Faults.{Faults}
+use Rattle.fetch_base.specs.Faults.{Faults}
 use Rattle.fetch_specs.specs.Parses.{parsed}
 use Rattle.fetch_wire.specs.declared.listings.mapping.RefMap.{RefMap}
 use Rattle.fetch_specs.specs.Specs.{Spec}

@@ -1,7 +1,7 @@
 //! A clone is prepared, and given up.
 
 ghost use Rattle.std.specs.Prelude.{◌≡◌, ◌++◌, IfOk, IfErr, IfSome, IsErrOf, OnOk, IsTrue, length, ◌==◌, ◌||◌, is_some, true, false};
-ghost use Rattle.fetch_store.specs.Faults.{Rose, Counts};
+ghost use Rattle.fetch_base.specs.Faults.{Rose, Counts};
 ghost use Rattle.fetch_remote.specs.Finding.{is_no_address as is_no_address_of};
 ghost use Rattle.fetch_remote.specs.Repositories.{setup_of};
 ghost use Rattle.fetch_clone.specs.CloneStates as spec;

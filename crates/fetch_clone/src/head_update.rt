@@ -2,7 +2,7 @@
 
 ghost use Rattle.std.specs.Prelude.{◌≡◌, ◌++◌, ◌∷◌, [], Ok, codes, IfOk, IfErr, IfSome, IsErrOf, OnOk, OnErr, Some};
 ghost use Rattle.std.specs.Option.{option_copied};
-ghost use Rattle.fetch_store.specs.Faults.{Rose, Counts};
+ghost use Rattle.fetch_base.specs.Faults.{Rose, Counts};
 ghost use Rattle.fetch_clone.specs.HeadTargets as head_target_is;
 ghost use Rattle.fetch_clone.specs.HeadUpdates as spec;
 ghost use Rattle.fetch_clone.specs.declared.clone.fetch.Error.TheVariants as errors;

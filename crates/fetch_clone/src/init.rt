@@ -3,7 +3,7 @@
 pub(crate) mod opening;
 
 ghost use Rattle.std.specs.Prelude.{◌≡◌, true, IfOk, IfErr, OnOk, IsTrue};
-ghost use Rattle.fetch_store.specs.Faults.{Rose, Counts};
+ghost use Rattle.fetch_base.specs.Faults.{Rose, Counts};
 ghost use Rattle.fetch_remote.specs.Repositories.{open_options as usual_options};
 ghost use Rattle.fetch_create.specs.Creation.{Reaches};
 ghost use Rattle.fetch_clone.specs.Initial.{IsInitial, IsInitRefusal, new_of, is_init_fault};

@@ -2,7 +2,7 @@
 //! proved.
 
 ghost use Rattle.std.specs.Prelude.{◌≡◌, ℕ, List, length, filter};
-ghost use Rattle.fetch_store.specs.declared.id.Kind.{Kind};
+ghost use Rattle.fetch_base.specs.declared.id.Kind.{Kind};
 ghost use Rattle.fetch_config.specs.Contents.{Contents};
 ghost use Rattle.fetch_config.specs.Print.{text_of};
 ghost use Rattle.fetch_config.specs.declared.meta.Meta.{Meta};

@@ -3,7 +3,7 @@
 ghost use Rattle.std.specs.Prelude.{◌≡◌, IfOk, IfErr, MatchResult, Some, None, true, false, IsTrue};
 ghost use Rattle.std.specs.Option.{option_copied};
 ghost use Rattle.fetch_lookup.specs.Names.{IsNameRefusal, name_refusal};
-ghost use Rattle.fetch_store.specs.Faults.{Rose, Counts};
+ghost use Rattle.fetch_base.specs.Faults.{Rose, Counts};
 ghost use Rattle.fetch_clone.specs.Choices.{ChoosesRevision, RefNameVerdict, ref_name_chosen, with_wanted};
 ghost use Rattle.fetch_clone.specs.CloneStates.{IsPrepared, IsPrepareRefusal, IsRemoved, is_removed, is_clone_fault, with_choices};
 ghost use Rattle.fetch_clone.specs.CloneStates.{making_of};

@@ -1,6 +1,6 @@
 //! A remote's section is written into a repository's configuration.
 
-ghost use Rattle.fetch_store.specs.Faults.{Rose, Counts};
+ghost use Rattle.fetch_base.specs.Faults.{Rose, Counts};
 ghost use Rattle.fetch_lookup.specs.Saved.{valid_name};
 ghost use Rattle.fetch_remote.specs.Remotes.{renamed};
 ghost use Rattle.fetch_clone.specs.RemoteSections as remote_sections;

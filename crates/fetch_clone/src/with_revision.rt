@@ -2,7 +2,7 @@
 
 ghost use Rattle.std.specs.Prelude.{◌≡◌};
 ghost use Rattle.std.specs.List.{list_any};
-ghost use Rattle.fetch_store.specs.Answers.{AnswersUnless};
+ghost use Rattle.fetch_base.specs.Answers.{AnswersUnless};
 ghost use Rattle.fetch_clone.specs.Revisions as spec;
 
 use fetch_specs::{Operation, RefSpec, SpecError, parse};

@@ -3,7 +3,7 @@ use Rattle.std.proofs.Common.{◌≡◌, ℕ, ◌+◌, ◌<◌, ◌≤◌, Bool,
 use Rattle.std.specs.Option.{option_map}
 use Rattle.std.proofs.lemmas.Bool.{ne_eqb, eq-eqb}
 use Rattle.std.proofs.lemmas.List.{at_drop_all, take_more, take_all}
-use Rattle.fetch_store.specs.Scan.{◌>>=◌}
+use Rattle.fetch_base.specs.Scan.{◌>>=◌}
 use Rattle.fetch_config.specs.Pieces.{is_comment_sign}
 use Rattle.fetch_config.specs.Values.{escape_of, with_byte, with_front, unquoted, before_comment, subsection_of}
 

@@ -5,7 +5,7 @@ use Rattle.std.specs.Option.{option_map}
 use Rattle.std.specs.Char.{is_ascii_alphabetic}
 use Rattle.std.proofs.lemmas.Bool.{eqb-true, and_parts, and_from}
 use Rattle.std.proofs.lemmas.List.{take-append-drop}
-use Rattle.fetch_store.specs.Scan.{◌>>=◌}
+use Rattle.fetch_base.specs.Scan.{◌>>=◌}
 use Rattle.fetch_config.specs.declared.line.Line.{Line}
 use Rattle.fetch_config.specs.declared.line.Line.TheVariants.{Nothing, Header, Entry}
 use Rattle.fetch_config.specs.Pieces.{is_blank, is_comment_sign, is_name_byte, skip_blanks, is_nothing, is_name, is_key, behind}

@@ -5,7 +5,7 @@ use Rattle.std.specs.List.{list_all, prefix_len, suffix_len, take_while, filter_
 use Rattle.std.specs.Option.{option_map, option_map_or}
 use Rattle.std.specs.Str.Lines.{lines, lines_of_parts, strip_carriage_return}
 use Rattle.std.proofs.lemmas.Bool.{and_parts, and_from}
-use Rattle.fetch_store.specs.Scan.{◌>>=◌, split_first, split_last}
+use Rattle.fetch_base.specs.Scan.{◌>>=◌, split_first, split_last}
 use Rattle.fetch_config.specs.Overrides.{path_and_value, api_meta, override_section, section_at, override_of, unkept_place}
 use Rattle.fetch_config.specs.declared.line.Line.{Line}
 use Rattle.fetch_config.specs.declared.line.Line.TheVariants.{Nothing, Header, Entry}

@@ -2,7 +2,7 @@
 use Rattle.std.proofs.Common.{◌≡◌, ◌↔◌, ℕ, Bool, true, false, cond, not, eqb, subst, List, [], ◌∷◌, ◌++◌, map, Option, Some, None, refl, sym, ap, ◌∙◌, append_assoc}
 use Rattle.std.specs.List.{list_all, flat_map}
 use Rattle.std.proofs.lemmas.Bool.{eqb-true, and_parts, and_from}
-use Rattle.fetch_store.specs.Scan.{◌>>=◌}
+use Rattle.fetch_base.specs.Scan.{◌>>=◌}
 use Rattle.fetch_config.specs.Values.{escape_of, with_byte, unquoted}
 use Rattle.fetch_config.specs.Marks.{Mark, Byte, Quote, Backslash, Feed, Tab, Backspace, mark_text, mark_byte, is_mark, Part, Bare, Quoted, part_text, part_value, is_part, IsInParts}
 use Rattle.fetch_config.proofs.Decoding.{onto}

@@ -6,7 +6,7 @@ use Rattle.std.specs.Char.{is_ascii_alphabetic}
 use Rattle.std.specs.Int.{is_in_range}
 use Rattle.std.proofs.lemmas.Bool.{eqb-true, and_parts, and_from}
 use Rattle.std.proofs.lemmas.List.Folds.{list_all-append}
-use Rattle.fetch_store.specs.Scan.{◌>>=◌}
+use Rattle.fetch_base.specs.Scan.{◌>>=◌}
 use Rattle.fetch_config.specs.declared.line.Line.TheVariants.{Nothing, Header, Entry}
 use Rattle.fetch_config.specs.Pieces.{is_blank, is_name_byte, skip_blanks, is_name, is_key, behind, IsWithout}
 use Rattle.fetch_config.specs.Values.{subsection_of}

@@ -3,7 +3,7 @@ use Rattle.std.specs.Prelude.{ℕ, ◌+◌, Bool, true, false, ◌||◌, ◌==�
 use Rattle.std.specs.List.{prefix_len, take_while, list_any, filter_map}
 use Rattle.std.specs.Option.{option_map}
 use Rattle.std.specs.Str.Lines.{lines}
-use Rattle.fetch_store.specs.Scan.{◌>>=◌}
+use Rattle.fetch_base.specs.Scan.{◌>>=◌}
 use Rattle.fetch_config.specs.declared.line.Line.{Line}
 use Rattle.fetch_config.specs.declared.line.Line.TheVariants.{Nothing, Header, Entry}
 use Rattle.fetch_config.specs.declared.meta.Meta.{Meta}

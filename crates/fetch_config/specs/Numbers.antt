@@ -5,7 +5,7 @@ use Rattle.std.specs.List.{slice_get}
 use Rattle.std.specs.Option.{option_map, option_map_or}
 use Rattle.std.specs.Str.{bytes_eq}
 use Rattle.std.specs.Str.Parse.{digits_value}
-use Rattle.fetch_store.specs.Scan.{◌>>=◌, is_decimal}
+use Rattle.fetch_base.specs.Scan.{◌>>=◌, is_decimal}
 
 -- `k`, `m` and `g` are steps of 1,024.
 abbrev pub unit_of : ℕ → Option ℕ

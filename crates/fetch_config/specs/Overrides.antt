@@ -1,7 +1,7 @@
 -- What an override says.
 use Rattle.std.specs.Prelude.{◌≡◌, ℕ, true, ◌&&◌, if◌then◌else◌, List, [], ◌∷◌, position, Option, Some, None, is_some, IsTrue}
 use Rattle.std.specs.Option.{option_map_or}
-use Rattle.fetch_store.specs.Scan.{◌>>=◌, split_first, split_last}
+use Rattle.fetch_base.specs.Scan.{◌>>=◌, split_first, split_last}
 use Rattle.fetch_config.specs.declared.error.ConfigError.{ConfigError}
 use Rattle.fetch_config.specs.declared.error.ConfigError.TheVariants.{Syntax, BadValue, InvalidKey, NoMemory}
 use Rattle.fetch_config.specs.declared.meta.Meta.{Meta}

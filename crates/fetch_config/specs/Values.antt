@@ -1,7 +1,7 @@
 -- What the text of a value or a subsection says, character by character.
 use Rattle.std.specs.Prelude.{ℕ, Bool, true, false, not, ◌&&◌, ◌||◌, ◌==◌, if◌then◌else◌, List, [], ◌∷◌, Option, Some, None}
 use Rattle.std.specs.Option.{option_map}
-use Rattle.fetch_store.specs.Scan.{◌>>=◌}
+use Rattle.fetch_base.specs.Scan.{◌>>=◌}
 use Rattle.fetch_config.specs.Pieces.{is_comment_sign, skip_blanks, trim_end}
 
 -- the byte that `\` and this character stand for

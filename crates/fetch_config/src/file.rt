@@ -19,7 +19,7 @@ use crate::overrides::{nul_or_feed_place, nul_place, override_of, section_of, un
 use crate::print::text_of;
 use crate::reading::read_sections;
 use crate::section::{Section, push_copies, push_entry, remove_entries};
-use fetch_store::{List, NoMemory, Text};
+use fetch_base::{List, NoMemory, Text};
 use std::alloc::Global;
 use std::marker::Model;
 

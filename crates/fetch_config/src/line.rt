@@ -7,7 +7,7 @@ use crate::text::{
     NUL, behind, is_blank, is_comment_sign, is_key, is_name, is_nothing, name_len, skip_blanks,
 };
 use crate::value::{subsection_of, value_of};
-use fetch_store::{NoMemory, Text};
+use fetch_base::{NoMemory, Text};
 use std::alloc::Global;
 
 /// What a line says.

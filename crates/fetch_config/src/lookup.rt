@@ -10,7 +10,7 @@ use crate::error::Unreadable;
 use crate::number::{integer_in, truth_of};
 use crate::section::Section;
 use crate::text::is_same_name;
-use fetch_store::{NoMemory, Text};
+use fetch_base::{NoMemory, Text};
 use std::alloc::Global;
 
 /// Whether a section's subsection is this one, byte by byte; a section may have none.

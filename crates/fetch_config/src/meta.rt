@@ -2,7 +2,7 @@
 
 ghost use Rattle.std.specs.Prelude.{◌≡◌, IfOk};
 
-use fetch_store::{NoMemory, Text};
+use fetch_base::{NoMemory, Text};
 
 /// What kind of file a section comes from.
 #[derive(Clone, Copy, Debug, PartialEq, Eq)]

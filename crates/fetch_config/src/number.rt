@@ -4,7 +4,7 @@ ghost use Rattle.std.specs.Prelude.{◌≡◌, ◌+◌, ◌<◌, ◌^◌, IfSome
 ghost use Rattle.std.specs.Str.{bytes_eq};
 ghost use Rattle.fetch_config.specs.Numbers as spec;
 
-use fetch_store::decimal;
+use fetch_base::decimal;
 
 fn unit_of(c: u8) -> Option<u64>
     ensures { result ≡ spec.unit_of c }

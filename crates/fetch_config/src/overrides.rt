@@ -8,7 +8,7 @@ ghost use Rattle.fetch_config.specs.Overrides as spec;
 use crate::meta::{Meta, Origin};
 use crate::section::Section;
 use crate::text::{LF, NUL, is_key, is_name};
-use fetch_store::{List, NoMemory, Text, split_first, split_last};
+use fetch_base::{List, NoMemory, Text, split_first, split_last};
 use std::alloc::Global;
 
 fn path_and_value(text: &[u8]) -> (&[u8], Option<&[u8]>)

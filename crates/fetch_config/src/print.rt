@@ -8,7 +8,7 @@ ghost use Rattle.fetch_config.specs.Print as spec;
 use crate::meta::Origin;
 use crate::section::Section;
 use crate::text::{CR, is_blank, is_comment_sign};
-use fetch_store::{NoMemory, Text};
+use fetch_base::{NoMemory, Text};
 use std::alloc::Global;
 
 fn push_value_byte(out: &mut Vec<u8>, c: u8) -> Result<(), NoMemory>

@@ -10,7 +10,7 @@ use crate::line::{Line, line_of};
 use crate::meta::Meta;
 use crate::section::{Section, push_entry};
 use crate::text::first_line;
-use fetch_store::{List, NoMemory, Text};
+use fetch_base::{List, NoMemory, Text};
 use std::alloc::Global;
 
 /// The sections of a text.

@@ -7,7 +7,7 @@ ghost use Rattle.fetch_config.specs.Pieces as pieces;
 
 use crate::meta::{Meta, clone_of};
 use crate::text::is_same_name;
-use fetch_store::{List, NoMemory, Text};
+use fetch_base::{List, NoMemory, Text};
 use std::alloc::Global;
 
 /// A section: its header, where it comes from, and its entries in order.

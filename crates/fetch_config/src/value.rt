@@ -6,7 +6,7 @@ ghost use Rattle.fetch_config.specs.Pieces.{is_comment_sign};
 ghost use Rattle.fetch_config.specs.Values as spec;
 
 use crate::text::{is_comment_sign, skip_blanks, trim_end};
-use fetch_store::NoMemory;
+use fetch_base::NoMemory;
 use std::alloc::Global;
 
 const QUOTE: u8 = b'"';

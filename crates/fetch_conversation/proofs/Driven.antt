@@ -17,7 +17,7 @@ use Rattle.fetch_wire.specs.Greetings.{offers}
 use Rattle.fetch_wire.specs.Intakes.{ReplyBuffer, told_with, taking}
 use Rattle.fetch_wire.specs.Intakes as intakes
 use Rattle.fetch_wire.specs.Requests.{listing_lines}
-use Rattle.fetch_store.specs.Answers.{RefusesUnless}
+use Rattle.fetch_base.specs.Answers.{RefusesUnless}
 use Rattle.fetch_wire.specs.SessionStates.{SessionState, IsAlike, fed, ended, after_end, error_of, refusal_of, if_told, is_all_sent, turn_of, turn_by, IsAwaiting, is_memory, after_told, rests, asks, listing_by, listing_feature}
 use Rattle.fetch_wire.specs.Talks.{Talk, Talks, Receive, Makes, behind, at_once, IsDrained, IsFront, Talks-then, Talks-none, Talks-stay, Makes-none, Makes-then}
 use Rattle.fetch_wire.specs.Written.{first_too_long}

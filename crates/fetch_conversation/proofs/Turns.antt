@@ -1,8 +1,8 @@
 -- Turn by turn, a session goes on until it rests or stops.
 use Rattle.std.proofs.Common.{◌≡◌, ◌≢◌, ◌<◌, ◌≤◌, ◌+◌, ◌*◌, ℕ, sym, ap, subst, inl, inr, arith, true, Some, None, Bool, false, List, [], ◌∷◌, Option, Ok, Err, refl, ◌∙◌}
 use Rattle.std.specs.Prelude.{is_some}
-use Rattle.fetch_store.specs.Faults.{Faults, Counts, Counts-none, Counts-then}
-use Rattle.fetch_store.specs.Answers.{RefusesUnless}
+use Rattle.fetch_base.specs.Faults.{Faults, Counts, Counts-none, Counts-then}
+use Rattle.fetch_base.specs.Answers.{RefusesUnless}
 use Rattle.fetch_wire.specs.SessionStates.{SessionState, IsAwaiting, fed, ended, is_all_sent, refusal_of, turn_by, turn_of, is_memory}
 use Rattle.fetch_wire.specs.Talks.{Talk, Talks, Makes, at_once, IsFront}
 use Rattle.fetch_wire.specs.declared.error.WireError.{WireError}

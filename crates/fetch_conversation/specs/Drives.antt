@@ -1,7 +1,7 @@
 -- A session that is driven: what is to be sent is sent, and bytes are received while a reply is awaited.
 use Rattle.std.specs.Prelude.{◌≡◌, ◌≢◌, ◌⊎◌, ℕ, Bool, false, List, [], ◌∷◌, ◌++◌, Option, Some, None, Result, Ok, Err, ⊤, ◌<◌, length}
 use Rattle.std.specs.List.{AllByRecursion}
-use Rattle.fetch_store.specs.Faults.{Faults}
+use Rattle.fetch_base.specs.Faults.{Faults}
 use Rattle.fetch_wire.specs.SessionStates.{SessionState, IsAlike, IsAwaiting, fed, ended, turn_of}
 use Rattle.fetch_wire.specs.Talks.{Talk, Talks, Receive, Makes, at_once, IsDrained, IsFront}
 use Rattle.fetch_wire.specs.declared.error.WireError.{WireError}

@@ -1,6 +1,6 @@
 -- One request for a pack, and its reply.
 use Rattle.std.specs.Prelude.{ℕ, Bool, not, List, ◌++◌, Ok, Err}
-use Rattle.fetch_store.specs.declared.id.ObjectId.{ObjectId}
+use Rattle.fetch_base.specs.declared.id.ObjectId.{ObjectId}
 use Rattle.fetch_specs.specs.declared.tags.Tags.{Tags}
 use Rattle.fetch_wire.specs.SessionStates.{error_of}
 use Rattle.fetch_wire.specs.declared.replies.reply.ReplyContext.{ReplyContext}

@@ -2,7 +2,7 @@
 use Rattle.std.specs.Prelude.{ℕ, ◌-◌, nat_lt, List, map, slice_get, Option, Some, option_and_then, if◌then◌else◌}
 use Rattle.std.specs.List.{filter_map}
 use Rattle.std.specs.Option.{option_map}
-use Rattle.fetch_store.specs.declared.id.Kind.{Kind}
+use Rattle.fetch_base.specs.declared.id.Kind.{Kind}
 use Rattle.fetch_specs.specs.declared.found.Match.{Match}
 use Rattle.fetch_specs.specs.declared.found.SourceRef.{SourceRef}
 use Rattle.fetch_specs.specs.declared.found.SourceRef.TheVariants as matched

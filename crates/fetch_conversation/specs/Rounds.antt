@@ -1,6 +1,6 @@
 -- The rounds of a fetch: one request after another, until one of them ends the rounds.
 use Rattle.std.specs.Prelude.{ℕ, zero, suc, Bool, ◌||◌, List, [], ◌∷◌, ◌++◌, length, Ok, Err, nat_lt, if◌then◌else◌}
-use Rattle.fetch_store.specs.declared.id.ObjectId.{ObjectId}
+use Rattle.fetch_base.specs.declared.id.ObjectId.{ObjectId}
 use Rattle.fetch_store.specs.Graph.{Graph}
 use Rattle.fetch_wire.specs.KnownIds.{each_once}
 use Rattle.fetch_wire.specs.declared.requests.records.FetchReply.{FetchReply}

@@ -2,8 +2,8 @@
 use Rattle.std.proofs.Common.{◌≡◌, ℕ, ◌+◌, ◌<◌, ◌≤◌, Bool, true, false, get_or, subst, sym, List, [], ◌∷◌, ◌++◌, take, length, Option, Some, None, Result, Ok, Err, IfErr, IsErrAnd, IfSome, refl, ap, ◌∙◌, arith}
 use Rattle.std.proofs.lemmas.List.{take_more}
 use Rattle.std.specs.Option.{option_and_then}
-use Rattle.fetch_store.specs.Paths.{parts_of}
-use Rattle.fetch_store.specs.Trees.{Tree, with_directories}
+use Rattle.fetch_files.specs.Paths.{parts_of}
+use Rattle.fetch_files.specs.Trees.{Tree, with_directories}
 use Rattle.fetch_create.specs.declared.create.step.Step.{Step}
 use Rattle.fetch_create.specs.declared.create.Error.{Error}
 use Rattle.fetch_create.specs.declared.create.Error.TheVariants.{IoOpen, IoWrite, CreateDirectory, DirectoryNotEmpty, DirectoryExists, NoMemory}

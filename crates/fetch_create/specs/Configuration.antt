@@ -1,7 +1,7 @@
 -- The configuration that a new repository begins with.
 use Rattle.std.specs.Prelude.{ℕ, Bool, true, false, not, List, [], ◌∷◌, ◌++◌, codes}
-use Rattle.fetch_store.specs.declared.id.Kind.{Kind}
-use Rattle.fetch_store.specs.declared.id.Kind.TheVariants as hashes
+use Rattle.fetch_base.specs.declared.id.Kind.{Kind}
+use Rattle.fetch_base.specs.declared.id.Kind.TheVariants as hashes
 use Rattle.fetch_create.specs.declared.create.Capabilities.{Capabilities}
 use Rattle.fetch_create.specs.declared.create.Kind.TheVariants as kinds
 use Rattle.fetch_create.specs.declared.create.Kind.{Kind as Layout}

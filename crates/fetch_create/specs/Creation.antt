@@ -2,11 +2,11 @@
 use Rattle.std.specs.Prelude.{◌≡◌, ℕ, Bool, true, false, List, [], ◌∷◌, take, Option, Some, None, is_some, IfSome}
 use Rattle.std.specs.List.{slice_get}
 use Rattle.std.specs.Option.{option_and_then, option_map}
-use Rattle.fetch_store.specs.FileCalls.{IsRefused}
-use Rattle.fetch_store.specs.Paths.{parts_of}
-use Rattle.fetch_store.specs.Trees.{Tree, kind_in, names_in, with_directories, written}
-use Rattle.fetch_store.specs.declared.node.Node.{Node}
-use Rattle.fetch_store.specs.declared.node.Node.TheVariants as nodes
+use Rattle.fetch_files.specs.FileCalls.{IsRefused}
+use Rattle.fetch_files.specs.Paths.{parts_of}
+use Rattle.fetch_files.specs.Trees.{Tree, kind_in, names_in, with_directories, written}
+use Rattle.fetch_files.specs.declared.node.Node.{Node}
+use Rattle.fetch_files.specs.declared.node.Node.TheVariants as nodes
 use Rattle.fetch_create.specs.declared.create.Error.{Error}
 use Rattle.fetch_create.specs.declared.create.Error.TheVariants.{IoOpen, IoWrite, CreateDirectory, DirectoryNotEmpty, DirectoryExists}
 use Rattle.fetch_create.specs.declared.create.Error.TheVariants.{NoMemory}

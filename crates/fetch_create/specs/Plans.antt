@@ -1,6 +1,6 @@
 -- Where a new repository stands, and the steps by which it is created.
 use Rattle.std.specs.Prelude.{ℕ, Bool, true, false, List, [], ◌∷◌, ◌++◌, Option, Some, None, unwrap_or, codes}
-use Rattle.fetch_store.specs.declared.id.Kind.TheVariants as hashes
+use Rattle.fetch_base.specs.declared.id.Kind.TheVariants as hashes
 use Rattle.fetch_create.specs.declared.create.Capabilities.{Capabilities}
 use Rattle.fetch_create.specs.declared.create.Kind.{Kind as Layout}
 use Rattle.fetch_create.specs.declared.create.Kind.TheVariants as kinds

@@ -1,7 +1,7 @@
 -- The configuration of a repository that is of another hash from now on.
 use Rattle.std.specs.Prelude.{ℕ, Bool, not, ◌&&◌, if◌then◌else◌, List, [], ◌∷◌, ◌++◌, map, filter, position, Option, Some, None, codes}
-use Rattle.fetch_store.specs.declared.id.Kind.{Kind}
-use Rattle.fetch_store.specs.declared.id.Kind.TheVariants as hashes
+use Rattle.fetch_base.specs.declared.id.Kind.{Kind}
+use Rattle.fetch_base.specs.declared.id.Kind.TheVariants as hashes
 use Rattle.fetch_config.specs.Contents.{Contents, with_sections, on_section, with_entry, without_key}
 use Rattle.fetch_config.specs.Lookups.{is_same_sub}
 use Rattle.fetch_config.specs.Pieces.{is_same_name}

@@ -5,7 +5,7 @@ mod run;
 pub mod step;
 
 ghost use Rattle.std.specs.Prelude.{◌≡◌, IfOk, IfErr, OnOk, IsTrue};
-ghost use Rattle.fetch_store.specs.Faults.{Rose, Counts};
+ghost use Rattle.fetch_base.specs.Faults.{Rose, Counts};
 ghost use Rattle.fetch_create.specs.Creation.{Reaches, IsStopped, is_fault};
 ghost use Rattle.fetch_create.specs.Plans.{path_of, steps_of};
 

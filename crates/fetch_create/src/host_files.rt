@@ -1,8 +1,8 @@
 //! The files of the host.
 
 ghost use Rattle.std.specs.Prelude.{None, true, IfErr, ◌≡◌};
-ghost use Rattle.fetch_store.specs.Calls.{one_more};
-ghost use Rattle.fetch_store.specs.Faults.{Counts, counted};
+ghost use Rattle.fetch_base.specs.Calls.{one_more};
+ghost use Rattle.fetch_base.specs.Faults.{Counts, counted};
 ghost use Rattle.fetch_create.specs.HostFaults.{IsCounted};
 
 use fetch_store::{Failed, FileError, Files, Node, Text, split_last};

@@ -1,7 +1,7 @@
 -- What a peer over two streams has, and what is counted of it.
 use Rattle.std.specs.Prelude.{◌≡◌, ℕ, ◌+◌, ◌-◌, ◌^◌, min, Option}
 use Rattle.std.specs.declared.io.ErrorKind.{ErrorKind}
-use Rattle.fetch_store.specs.Faults.{Rose, Counts, counted}
+use Rattle.fetch_base.specs.Faults.{Rose, Counts, counted}
 use Rattle.fetch_wire.specs.declared.session.peer.SendFault.{SendFault}
 use Rattle.fetch_wire.specs.declared.session.peer.SendFault.TheVariants as faults
 

@@ -1,7 +1,7 @@
 //! What stops a fetch.
 
 ghost use Rattle.std.specs.Prelude.{◌≡◌, ℕ, false, IsTrue};
-ghost use Rattle.fetch_store.specs.Faults.{Counts, Rose, counted};
+ghost use Rattle.fetch_base.specs.Faults.{Counts, Rose, counted};
 ghost use Rattle.fetch_wire.specs.Scripts.{said_after};
 
 use fetch_wire::Interrupt;

@@ -1,7 +1,7 @@
 //! A maker of peers over streams.
 
 ghost use Rattle.std.specs.Prelude.{◌≡◌, None, Some};
-ghost use Rattle.fetch_store.specs.Faults.{counted};
+ghost use Rattle.fetch_base.specs.Faults.{counted};
 ghost use Rattle.fetch_host.specs.Streams.{IsCounted};
 
 use crate::stream_peer::StreamPeer;

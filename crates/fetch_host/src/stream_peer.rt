@@ -1,7 +1,7 @@
 //! A peer over a reader and a writer.
 
 ghost use Rattle.std.specs.Prelude.{◌≡◌, ◌<◌, ◌≤◌, [], ◌∷◌, length, IfOk, OnOk, OnErr, IsErrOf, None, Some, IsSome, false};
-ghost use Rattle.fetch_store.specs.Faults.{Rose, Counts, counted};
+ghost use Rattle.fetch_base.specs.Faults.{Rose, Counts, counted};
 ghost use Rattle.fetch_wire.specs.Talks.{Makes, Receives, Sends, at_once};
 ghost use Rattle.fetch_host.specs.Streams.{more_by};
 

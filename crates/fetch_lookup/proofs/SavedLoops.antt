@@ -10,7 +10,7 @@ use Rattle.fetch_config.proofs.Flat.{drop_item}
 use Rattle.fetch_lookup.specs.Edited.{edited_at}
 use Rattle.fetch_lookup.specs.Saved as spec
 use Rattle.fetch_lookup.specs.declared.save.Error.{Error}
-use Rattle.fetch_store.specs.Answers.{AnswersBy}
+use Rattle.fetch_base.specs.Answers.{AnswersBy}
 use Rattle.std.specs.Prelude.{IfOk, codes}
 use Rattle.fetch_lookup.specs.Names.{remote}
 use Rattle.fetch_lookup.specs.declared.direction.Direction.TheVariants.{Push, Fetch}

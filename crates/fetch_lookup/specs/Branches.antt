@@ -4,7 +4,7 @@ use Rattle.std.specs.Prelude.{Result, Ok, Err}
 use Rattle.std.specs.List.{starts_with, filter_map}
 use Rattle.std.specs.Option.{option_map, option_and_then}
 use Rattle.std.specs.Str.{bytes_eq}
-use Rattle.fetch_store.specs.declared.id.Kind.TheVariants as kinds
+use Rattle.fetch_base.specs.declared.id.Kind.TheVariants as kinds
 use Rattle.fetch_specs.specs.Categories.{refs, heads, shortened}
 use Rattle.fetch_specs.specs.Matches.{mappings_of}
 use Rattle.fetch_specs.specs.Names.{full_name_trouble}

@@ -1,6 +1,6 @@
 -- Answers that stand on others.
 use Rattle.std.specs.Prelude.{◌≡◌, Bool, true, List, [], ◌∷◌, Option, Some, None, Result, Ok, Err}
-use Rattle.fetch_store.specs.Answers.{AnswersUnless}
+use Rattle.fetch_base.specs.Answers.{AnswersUnless}
 
 -- what follows an Ok; a refusal stays
 abbrev pub and_then : {A B E : Type 0} → Result A E → (A → Result B E) → Result B E

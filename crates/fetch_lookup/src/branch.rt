@@ -2,7 +2,7 @@
 
 ghost use Rattle.std.specs.Prelude.{◌≡◌, IfOk};
 
-use fetch_store::{NoMemory, Text};
+use fetch_base::{NoMemory, Text};
 use thiserror::Error as ThisError;
 
 /// Why it isn't told what a branch is called on its remote.

@@ -6,9 +6,9 @@ ghost use Rattle.std.specs.Option.{option_copied};
 ghost use Rattle.fetch_lookup.specs.Branches as spec;
 
 use crate::names::branch_string;
+use fetch_base::{Kind, NoMemory, Text};
 use fetch_config::File;
 use fetch_specs::{FullName, Item, Match, MatchGroup, NameError, RefSpec};
-use fetch_store::{Kind, NoMemory, Text};
 use std::alloc::Global;
 
 /// What a branch is fetched from, as a text: the last `branch.<short>.merge`, below `refs/heads/` where it doesn't begin

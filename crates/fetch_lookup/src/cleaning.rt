@@ -11,8 +11,8 @@ ghost use Rattle.fetch_lookup.specs.Saved as spec;
 
 use crate::direction::Direction;
 use crate::lines::address_key;
+use fetch_base::Text;
 use fetch_config::{File, Meta, Section, is_same_name, is_same_sub};
-use fetch_store::Text;
 
 /// The keys go from all sections of the remote, and sections that this empties go too.
 pub(crate) fn clean(file: &mut File, name: &[u8])

@@ -2,7 +2,7 @@
 
 ghost use Rattle.std.specs.Prelude.{◌≡◌, IfOk, OnOk, OnErr};
 ghost use Rattle.fetch_specs.specs.Parses.{parsed};
-ghost use Rattle.fetch_store.specs.Answers.{AnswersBy};
+ghost use Rattle.fetch_base.specs.Answers.{AnswersBy};
 ghost use Rattle.fetch_lookup.specs.Extended as spec;
 ghost use Rattle.fetch_lookup.specs.Ordered.{ascending, is_among};
 ghost use Rattle.fetch_lookup.specs.Remotes.{operation_of};
@@ -12,8 +12,8 @@ ghost use Rattle.fetch_lookup.specs.SpecOrder.{is_spec_memory, spec_cmp};
 use crate::direction::Direction;
 use crate::refspecs::{parse_all, place};
 use crate::remote::operation_of;
+use fetch_base::{List, NoMemory, Text};
 use fetch_specs::{RefSpec, SpecError};
-use fetch_store::{List, NoMemory, Text};
 use std::alloc::Global;
 use std::collections::BTreeSet;
 

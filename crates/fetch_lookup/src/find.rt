@@ -3,8 +3,8 @@
 ghost use Rattle.std.specs.Prelude.{◌≡◌, IfOk};
 
 use crate::direction::Direction;
+use fetch_base::{NoMemory, Text};
 use fetch_specs::SpecError;
-use fetch_store::{NoMemory, Text};
 use thiserror::Error as ThisError;
 
 /// Why what a configuration says of a remote can't be read.

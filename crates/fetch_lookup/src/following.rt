@@ -3,16 +3,16 @@
 ghost use Rattle.std.specs.Prelude.{◌≡◌, ◌++◌, ◌||◌, if◌then◌else◌, nat_lt, length, [], ◌∷◌, IfOk, OnOk, Some};
 ghost use Rattle.std.specs.List.{flat_map, list_any, find};
 ghost use Rattle.fetch_specs.specs.Categories.{category_of};
-ghost use Rattle.fetch_store.specs.Answers.{AnswersUnless};
+ghost use Rattle.fetch_base.specs.Answers.{AnswersUnless};
 ghost use Rattle.fetch_lookup.specs.Saved.{first_or_empty};
 ghost use Rattle.fetch_lookup.specs.Upstreams as spec;
 
 use crate::leading::{Leading, all_leading};
 use crate::remote::RemoteParts;
 use crate::upstream::Error;
+use fetch_base::{List, NoMemory, Text};
 use fetch_config::File;
 use fetch_specs::{Category, FullName, NameError};
-use fetch_store::{List, NoMemory, Text};
 use std::alloc::Global;
 
 /// The branch that a tracking branch follows, and its remote: the refspecs of one remote alone lead there, and from one

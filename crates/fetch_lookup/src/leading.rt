@@ -2,7 +2,7 @@
 
 ghost use Rattle.std.specs.Prelude.{◌≡◌, ◌++◌, ◌∷◌, [], IfOk, OnOk};
 ghost use Rattle.std.specs.List.{flat_map};
-ghost use Rattle.fetch_store.specs.Answers.{AnswersBy, AnswersUnless};
+ghost use Rattle.fetch_base.specs.Answers.{AnswersBy, AnswersUnless};
 ghost use Rattle.fetch_lookup.specs.Names.{remote_names_of};
 ghost use Rattle.fetch_lookup.specs.Results.{all_of};
 ghost use Rattle.fetch_lookup.specs.Upstreams as spec;
@@ -11,9 +11,9 @@ use crate::find;
 use crate::names::{Names, remote_names};
 use crate::remote::{RemoteParts, found};
 use crate::upstream::Error;
+use fetch_base::{List, NoMemory, Text};
 use fetch_config::File;
 use fetch_specs::{FullName, Item, Match, MatchGroup, RefSpec, SourceRef};
-use fetch_store::{List, NoMemory, Text};
 use std::alloc::Global;
 
 /// A remote, and the names that its refspecs lead to a tracking branch from.

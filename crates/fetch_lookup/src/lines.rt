@@ -7,8 +7,8 @@ ghost use Rattle.fetch_lookup.specs.Saved as spec;
 
 use crate::direction::Direction;
 use crate::remote::{RemoteParts, spec_key};
+use fetch_base::{NoMemory, Text};
 use fetch_specs::{RefSpec, Tags};
-use fetch_store::{NoMemory, Text};
 use std::alloc::Global;
 
 /// A key, and its value.

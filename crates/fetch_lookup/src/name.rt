@@ -5,8 +5,8 @@ ghost use Rattle.fetch_lookup.specs.Names as spec;
 ghost use Rattle.fetch_lookup.specs.declared.name.Error.TheVariants as errors;
 
 use crate::utf8::{characters, ill_formed_place, is_utf8};
+use fetch_base::{NoMemory, Text};
 use fetch_specs::{Operation, SpecError, parse};
-use fetch_store::{NoMemory, Text};
 use std::alloc::{AllocError, Global};
 use thiserror::Error;
 

@@ -9,8 +9,8 @@ ghost use Rattle.fetch_lookup.specs.Ordered.{ascending, placed};
 use crate::direction::Direction;
 use crate::name::{Name, named};
 use crate::utf8::is_utf8;
+use fetch_base::{NoMemory, Text};
 use fetch_config::{File, Section, is_same_name};
-use fetch_store::{NoMemory, Text};
 use std::alloc::Global;
 use std::collections::BTreeSet;
 

@@ -1,11 +1,11 @@
 //! What is pushed where no refspec says it.
 
 ghost use Rattle.std.specs.Prelude.{◌≡◌, IfOk};
-ghost use Rattle.fetch_store.specs.Answers.{AnswersUnless};
+ghost use Rattle.fetch_base.specs.Answers.{AnswersUnless};
 ghost use Rattle.fetch_lookup.specs.Branches as spec;
 
+use fetch_base::{NoMemory, Text};
 use fetch_config::File;
-use fetch_store::{NoMemory, Text};
 use std::alloc::Global;
 use thiserror::Error as ThisError;
 

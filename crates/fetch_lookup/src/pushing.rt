@@ -2,7 +2,7 @@
 
 ghost use Rattle.std.specs.Prelude.{◌≡◌, IfOk, List, ℕ, Option, Result};
 ghost use Rattle.std.specs.Option.{option_copied};
-ghost use Rattle.fetch_store.specs.Answers.{AnswersUnless};
+ghost use Rattle.fetch_base.specs.Answers.{AnswersUnless};
 ghost use Rattle.fetch_lookup.specs.Branches.{merge_of};
 ghost use Rattle.fetch_lookup.specs.Pushed as spec;
 ghost use Rattle.fetch_lookup.specs.Results.{AnswersMaybe};
@@ -14,9 +14,9 @@ use crate::direction::Direction;
 use crate::push;
 use crate::push::default_choice;
 use crate::remote::RemoteParts;
+use fetch_base::{NoMemory, Text};
 use fetch_config::File;
 use fetch_specs::{FullName, NameError, RefSpec};
-use fetch_store::{NoMemory, Text};
 use std::alloc::Global;
 
 /// What a branch is called on its remote. To fetch, that is its `branch.<short>.merge`. To push, it is the first

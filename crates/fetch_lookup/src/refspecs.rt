@@ -3,13 +3,13 @@
 ghost use Rattle.std.specs.Prelude.{◌≡◌, IfOk, OnOk};
 ghost use Rattle.std.specs.BTreeSet.{insert_key};
 ghost use Rattle.fetch_specs.specs.Parses.{parsed};
-ghost use Rattle.fetch_store.specs.Answers.{AnswersBy, AnswersUnless};
+ghost use Rattle.fetch_base.specs.Answers.{AnswersBy, AnswersUnless};
 ghost use Rattle.fetch_lookup.specs.Ordered.{ascending};
 ghost use Rattle.fetch_lookup.specs.Results.{all_of};
 ghost use Rattle.fetch_lookup.specs.SpecOrder.{is_spec_memory, spec_cmp};
 
+use fetch_base::{List, NoMemory, Text};
 use fetch_specs::{Operation, RefSpec, SpecError, parse};
-use fetch_store::{List, NoMemory, Text};
 use std::alloc::Global;
 use std::collections::BTreeSet;
 

@@ -3,7 +3,7 @@
 ghost use Rattle.std.specs.Prelude.{◌≡◌, ◌≤◌, ◌==◌, is_some, IfOk, IfSome, Some, true, length, drop};
 ghost use Rattle.std.specs.List.{list_any, suffix_len};
 ghost use Rattle.fetch_config.specs.Lookups as lookups;
-ghost use Rattle.fetch_store.specs.Answers.{AnswersUnless};
+ghost use Rattle.fetch_base.specs.Answers.{AnswersUnless};
 ghost use Rattle.fetch_lookup.specs.Names as names;
 ghost use Rattle.fetch_lookup.specs.Remotes as spec;
 ghost use Rattle.fetch_lookup.specs.Remotes.{is_memory};
@@ -12,9 +12,9 @@ use crate::direction::Direction;
 use crate::find::Error;
 use crate::name::{Name, is_place, named};
 use crate::refspecs::{in_order, parse_all};
+use fetch_base::{List, NoMemory, Text};
 use fetch_config::{File, Section, is_same_name, is_same_sub};
 use fetch_specs::{Operation, RefSpec, SpecError, Tags};
-use fetch_store::{List, NoMemory, Text};
 use std::alloc::Global;
 
 /// What a configuration says of a remote.

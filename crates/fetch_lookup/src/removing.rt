@@ -8,8 +8,8 @@ ghost use Rattle.fetch_lookup.specs.Edited.{edited_at};
 ghost use Rattle.fetch_lookup.specs.Removed as spec;
 
 use crate::names::Names;
+use fetch_base::Text;
 use fetch_config::{File, Origin, Section, is_same_name};
-use fetch_store::Text;
 
 /// Whether there is a local section `branch "<name>"` of one of these short names.
 #[tactic(auto, unfolding(crate::specs::Removed::has_branches))]

@@ -3,7 +3,7 @@
 ghost use Rattle.std.specs.Prelude.{◌≡◌, IfOk};
 
 use crate::name::Error as NameError;
-use fetch_store::{NoMemory, Text};
+use fetch_base::{NoMemory, Text};
 use thiserror::Error as ThisError;
 
 /// Why a remote isn't saved.

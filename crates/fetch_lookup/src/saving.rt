@@ -4,7 +4,7 @@ ghost use Rattle.std.specs.Prelude.{◌≡◌, ◌<◌, ◌||◌, ◌∷◌, [],
 ghost use Rattle.std.specs.List.{filter_map};
 ghost use Rattle.fetch_config.specs.Contents.{with_sections, on_section};
 ghost use Rattle.fetch_config.specs.Kept.{is_nul_or_feed};
-ghost use Rattle.fetch_store.specs.Answers.{AnswersBy, AnswersUnless};
+ghost use Rattle.fetch_base.specs.Answers.{AnswersBy, AnswersUnless};
 ghost use Rattle.fetch_lookup.specs.Names.{text_of};
 ghost use Rattle.fetch_lookup.specs.Saved as spec;
 
@@ -14,8 +14,8 @@ use crate::lines::{KeyLine, lines};
 use crate::name::{Error as NameError, Name, is_place, validated};
 use crate::remote::RemoteParts;
 use crate::save::{AsError, Error};
+use fetch_base::{NoMemory, Text};
 use fetch_config::{ConfigError, File, Meta, Section};
-use fetch_store::{NoMemory, Text};
 use std::alloc::Global;
 
 /// Saves a remote: in all sections `remote "<name>"` the addresses, the choice of tags and the refspecs go, and what

@@ -3,8 +3,8 @@
 ghost use Rattle.std.specs.Prelude.{◌≡◌, IfOk};
 
 use crate::find;
+use fetch_base::{List, NoMemory, Text};
 use fetch_specs::FullName;
-use fetch_store::{List, NoMemory, Text};
 use thiserror::Error as ThisError;
 
 /// Why it isn't told which branch a tracking branch follows.

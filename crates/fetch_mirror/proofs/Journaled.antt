@@ -7,9 +7,9 @@ use Rattle.std.specs.Option.{option_or, option_flatten}
 use Rattle.std.specs.Str.{bytes_eq}
 use Rattle.std.proofs.lemmas.Slice.Eq.{bytes_eq-Decides}
 use Rattle.fetch_store.specs.Borders.{IdSet, merged, set_of}
-use Rattle.fetch_store.specs.declared.id.ObjectId.{ObjectId}
+use Rattle.fetch_base.specs.declared.id.ObjectId.{ObjectId}
 use Rattle.fetch_store.proofs.Borders.{named-Contains, Contains-named}
-use Rattle.fetch_store.proofs.Ids.{id_cmp_total}
+use Rattle.fetch_base.proofs.Ids.{id_cmp_total}
 use Rattle.fetch_store.proofs.Members.{none_in}
 use Rattle.fetch_refs.specs.Edits.{refs_after, written, written_in}
 use Rattle.fetch_refs.specs.Laws.{last_that, left_by, mode_of, new_value, touches_reference, writes}

@@ -4,8 +4,8 @@ use Rattle.std.specs.FinMap as map
 use Rattle.std.specs.FinSet as set
 use Rattle.fetch_store.specs.Closed.{IsClosed}
 use Rattle.fetch_store.specs.Missing.{unclosed}
-use Rattle.fetch_store.specs.Stores.{id_cmp}
-use Rattle.fetch_store.specs.declared.id.Kind.{Kind}
+use Rattle.fetch_base.specs.Id.{id_cmp}
+use Rattle.fetch_base.specs.declared.id.Kind.{Kind}
 use Rattle.fetch_store.proofs.Unclosed.{closed_none}
 use Rattle.fetch_config.specs.Lines.{line_of, sections_of}
 use Rattle.fetch_config.specs.Lookups.{boolean_of, explicit, last_or, values_of}

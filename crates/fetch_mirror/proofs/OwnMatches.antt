@@ -10,10 +10,10 @@ use Rattle.std.proofs.lemmas.Slice.Eq.{bytes_eq-Decides}
 use Rattle.hex.specs.Hex.{decode_pairs, decode_sized}
 use Rattle.hex.specs.declared.error.FromHexError.{FromHexError}
 use Rattle.hex.specs.declared.error.FromHexError.TheVariants.{InvalidHexCharacter, OddLength, InvalidStringLength}
-use Rattle.fetch_store.specs.Id.{id_of_bytes, byte_len, id_in_hex}
-use Rattle.fetch_store.specs.declared.id.Kind.{Kind}
-use Rattle.fetch_store.specs.declared.id.Kind.TheVariants as kinds
-use Rattle.fetch_store.specs.declared.id.ObjectId.{ObjectId}
+use Rattle.fetch_base.specs.Id.{id_of_bytes, byte_len, id_in_hex}
+use Rattle.fetch_base.specs.declared.id.Kind.{Kind}
+use Rattle.fetch_base.specs.declared.id.Kind.TheVariants as kinds
+use Rattle.fetch_base.specs.declared.id.ObjectId.{ObjectId}
 use Rattle.fetch_specs.specs.Categories.{refs}
 use Rattle.fetch_specs.specs.Made.{IsMapping, IsFirst, mapping_at, comes_before}
 use Rattle.fetch_specs.specs.Matches.{has_star, front_of, back_of, between, short_heads, short_tags, short_remotes, is_full, is_expansion, where_true, taken, missing_front, completed, is_excluded, id_mapping, id_match, mapping_unless, name_match, leading, is_same, mappings_of}

@@ -4,7 +4,7 @@ use Rattle.std.specs.Prelude.{slice_get}
 use Rattle.std.specs.List.{Contains, filter_map}
 use Rattle.std.specs.Option.{option_map}
 use Rattle.std.proofs.lemmas.List.{append-nil}
-use Rattle.fetch_store.specs.declared.id.Kind.{Kind}
+use Rattle.fetch_base.specs.declared.id.Kind.{Kind}
 use Rattle.fetch_specs.specs.Conflicts.{conflicts_of}
 use Rattle.fetch_specs.specs.Matches.{mappings_of}
 use Rattle.fetch_specs.specs.Specs.{Spec}

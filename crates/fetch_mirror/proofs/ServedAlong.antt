@@ -1,7 +1,7 @@
 -- What a server gives, request by request, along the way of a conversation.
 use Rattle.std.proofs.Common.{◌≡◌, ℕ, ◌<◌, ◌≤◌, Bool, true, false, List, [], ◌∷◌, ◌++◌, Some, None, Result, Ok, Err, sym, ap, ◌∙◌, sum_by}
 use Rattle.std.proofs.lemmas.List.{append-nil}
-use Rattle.fetch_store.specs.declared.id.Kind.{Kind}
+use Rattle.fetch_base.specs.declared.id.Kind.{Kind}
 use Rattle.fetch_wire.specs.Awaited.{step_of, start_of, told_at}
 use Rattle.fetch_wire.specs.Lines.{line_len}
 use Rattle.fetch_wire.specs.LinesTold.{Tells}

@@ -7,8 +7,9 @@ use Rattle.std.proofs.lemmas.List.Elements.{Contains-get_or}
 use Rattle.fetch_store.specs.Closed.{Holding, IsStored, Reached, links, others}
 use Rattle.fetch_store.specs.Missing.{missing}
 use Rattle.fetch_store.specs.Objects.{Stored}
-use Rattle.fetch_store.specs.Stores.{Entries, id_cmp}
-use Rattle.fetch_store.specs.declared.id.ObjectId.{ObjectId}
+use Rattle.fetch_store.specs.Stores.{Entries}
+use Rattle.fetch_base.specs.Id.{id_cmp}
+use Rattle.fetch_base.specs.declared.id.ObjectId.{ObjectId}
 use Rattle.fetch_store.proofs.Honesty.{reached_stored}
 use Rattle.fetch_store.proofs.Reaching.{All-Contains, reached_closed, reached_start}
 use Rattle.fetch_reach.specs.Stored.{entry_at}

@@ -2,7 +2,7 @@
 use Rattle.std.proofs.Common.{◌≡◌, ◌≢◌, ℕ, zero, suc, ◌==◌, Bool, true, false, List, [], ◌∷◌, ◌++◌, map, Option, Some, None, Result, Ok, Err, refl, sym, ap, ◌∙◌, subst, inl, inr, ⊎_elim, append_assoc}
 use Rattle.std.specs.Prelude.{◌⊎◌, slice_get}
 use Rattle.std.specs.FinMap as finmap
-use Rattle.fetch_store.specs.declared.id.ObjectId.{ObjectId}
+use Rattle.fetch_base.specs.declared.id.ObjectId.{ObjectId}
 use Rattle.fetch_store.specs.declared.missing.Missing.{Missing}
 use Rattle.fetch_refs.specs.Names.{name_cmp}
 use Rattle.fetch_refs.specs.declared.edit.RefEdit.{RefEdit}

@@ -6,7 +6,7 @@ use Rattle.std.specs.FinSet as set
 use Rattle.fetch_store.specs.Graph.{Node, node_of}
 use Rattle.fetch_store.specs.Objects.{Stored}
 use Rattle.fetch_store.specs.Closed.{IsStored}
-use Rattle.fetch_store.specs.declared.id.ObjectId.{ObjectId}
+use Rattle.fetch_base.specs.declared.id.ObjectId.{ObjectId}
 use Rattle.fetch_store.proofs.Graphs.{get-graph_of}
 use Rattle.fetch_specs.specs.Specs.{Spec}
 use Rattle.fetch_refs.specs.declared.log.Signature.{Signature}

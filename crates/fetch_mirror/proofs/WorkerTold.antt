@@ -10,9 +10,9 @@ use Rattle.std.proofs.lemmas.List.{append-nil}
 use Rattle.fetch_store.specs.Borders.{ids_of}
 use Rattle.fetch_store.specs.Closed.{IsStored}
 use Rattle.fetch_store.specs.Graph.{graph_of}
-use Rattle.fetch_store.specs.Hashing.{digest}
-use Rattle.fetch_store.specs.declared.id.Kind.{Kind}
-use Rattle.fetch_store.specs.declared.id.ObjectId.{ObjectId}
+use Rattle.fetch_base.specs.Hashing.{digest}
+use Rattle.fetch_base.specs.declared.id.Kind.{Kind}
+use Rattle.fetch_base.specs.declared.id.ObjectId.{ObjectId}
 use Rattle.fetch_store.proofs.Borders.{ids_of-set, named-Contains}
 use Rattle.fetch_store.proofs.Members.{first_in, later_in, none_in}
 use Rattle.fetch_specs.specs.Names.{is_full_name}

@@ -3,7 +3,7 @@ use Rattle.std.specs.Prelude.{ℕ, List, map, nat_eq, Option, None, if◌then◌
 use Rattle.std.specs.List.{filter_map, starts_with}
 use Rattle.std.specs.Option.{option_map}
 use Rattle.std.specs.Result.{result_ok}
-use Rattle.fetch_store.specs.declared.id.ObjectId.{ObjectId}
+use Rattle.fetch_base.specs.declared.id.ObjectId.{ObjectId}
 use Rattle.fetch_specs.specs.Categories.{refs}
 use Rattle.fetch_refs.specs.Peeled.{resolved}
 use Rattle.fetch_refs.specs.declared.target.Target.{Target}

@@ -1,8 +1,8 @@
 -- What a worker of a mirror asks its server for.
 use Rattle.std.specs.Prelude.{◌≡◌, ◌-◌, ⊤, true, false, List, [], ◌∷◌, ◌++◌, length, None, slice_get}
 use Rattle.std.specs.Option.{option_or}
-use Rattle.fetch_store.specs.declared.id.Kind.{Kind}
-use Rattle.fetch_store.specs.declared.id.ObjectId.{ObjectId}
+use Rattle.fetch_base.specs.declared.id.Kind.{Kind}
+use Rattle.fetch_base.specs.declared.id.ObjectId.{ObjectId}
 use Rattle.fetch_store.specs.Borders.{ids_of}
 use Rattle.fetch_specs.specs.declared.tags.Tags.TheVariants as tags
 use Rattle.fetch_pack.specs.declared.version.PackVersion.TheVariants.{V2}

@@ -1,7 +1,7 @@
 -- What a mirror asks its server for, and what the server tells of its references.
 use Rattle.std.specs.Prelude.{◌≡◌, ℕ, ◌≤◌, ⊤, true, List, [], ◌∷◌, ◌++◌, None, codes, sum_by}
 use Rattle.std.specs.Ordering.{is_lt}
-use Rattle.fetch_store.specs.declared.id.Kind.{Kind}
+use Rattle.fetch_base.specs.declared.id.Kind.{Kind}
 use Rattle.fetch_refs.specs.Names.{name_cmp}
 use Rattle.fetch_wire.specs.Awaited.{step_of, start_of}
 use Rattle.fetch_wire.specs.Greetings.{handshake_of}

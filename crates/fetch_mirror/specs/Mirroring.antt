@@ -3,8 +3,8 @@ use Rattle.std.specs.Prelude.{◌≡◌, ◌≢◌, ◌⊎◌, ℕ, ◌≤◌, �
 use Rattle.std.specs.Prelude.{Result, Err, IsOk, slice_get, ⊤}
 use Rattle.std.specs.FinMap as finmap
 use Rattle.std.specs.List.{Contains}
-use Rattle.fetch_store.specs.Faults.{Faults}
-use Rattle.fetch_store.specs.declared.id.Kind.{Kind}
+use Rattle.fetch_base.specs.Faults.{Faults}
+use Rattle.fetch_base.specs.declared.id.Kind.{Kind}
 use Rattle.fetch_refs.specs.declared.log.Signature.{Signature}
 use Rattle.fetch_refs.specs.declared.target.Target.{Target}
 use Rattle.fetch_specs.specs.Specs.{Spec}

@@ -2,7 +2,7 @@
 use Rattle.std.specs.Prelude.{false, [], None, codes}
 use Rattle.std.specs.FinMap as map
 use Rattle.std.specs.FinSet as set
-use Rattle.fetch_store.specs.declared.id.Kind.{Kind}
+use Rattle.fetch_base.specs.declared.id.Kind.{Kind}
 use Rattle.fetch_refs.specs.declared.log.Signature.{Signature}
 use Rattle.fetch_remote.specs.RepositoryValues.{RepositoryValue, Setup, State}
 use Rattle.fetch_mirror.specs.Settings.{config_from, own_meta}

@@ -6,12 +6,12 @@ use Rattle.std.specs.FinSet as set
 use Rattle.std.specs.List.{list_any}
 use Rattle.std.specs.Option.{option_and_then, option_map_or}
 use Rattle.std.specs.Ordering.{eq_by_cmp}
-use Rattle.fetch_store.specs.declared.id.ObjectId.{ObjectId}
+use Rattle.fetch_base.specs.declared.id.ObjectId.{ObjectId}
 use Rattle.fetch_store.specs.Graph.{Graph, Node}
-use Rattle.fetch_store.specs.Stores.{id_cmp}
+use Rattle.fetch_base.specs.Id.{id_cmp}
 use Rattle.fetch_store.proofs.Borders.{any-filter}
 use Rattle.fetch_store.proofs.Finds.{ties}
-use Rattle.fetch_store.proofs.Ids.{id_cmp_exact}
+use Rattle.fetch_base.proofs.Ids.{id_cmp_exact}
 use Rattle.std.specs.Cmp.{Equal-is}
 use Rattle.fetch_negotiate.specs.declared.commits.Commit.{Commit}
 use Rattle.fetch_negotiate.specs.Ancestors.{links_of, parents_of, leads, is_ancestor}

@@ -4,11 +4,11 @@ use Rattle.std.specs.Prelude.{is_some, IfSome, ◌||◌}
 use Rattle.std.specs.FinMap as finmap
 use Rattle.std.specs.Cmp.{Equal-is}
 use Rattle.std.specs.Ordering.{eq_by_cmp}
-use Rattle.fetch_store.specs.declared.id.ObjectId.{ObjectId}
+use Rattle.fetch_base.specs.declared.id.ObjectId.{ObjectId}
 use Rattle.fetch_store.specs.Graph.{Graph}
-use Rattle.fetch_store.specs.Stores.{id_cmp}
+use Rattle.fetch_base.specs.Id.{id_cmp}
 use Rattle.fetch_store.proofs.Finds.{ties}
-use Rattle.fetch_store.proofs.Ids.{id_cmp_exact}
+use Rattle.fetch_base.proofs.Ids.{id_cmp_exact}
 use Rattle.fetch_negotiate.specs.Commits.{has, commit_of}
 use Rattle.fetch_negotiate.specs.Haves.{Negotiation, taking, next_taken}
 use Rattle.fetch_negotiate.specs.Sharing.{Covers}

@@ -10,12 +10,12 @@ use Rattle.std.specs.Ordering.{eq_by_cmp}
 use Rattle.std.specs.declared.cmp.Ordering.{Ordering}
 use Rattle.std.proofs.lemmas.List.{length-take-le, take-append-drop, take-append-le, take_at}
 use Rattle.std.proofs.lemmas.Grind.{flat_map-append}
-use Rattle.fetch_store.specs.declared.id.ObjectId.{ObjectId}
-use Rattle.fetch_store.specs.contracts.id.ObjectIdOrd.TheImpl as order
+use Rattle.fetch_base.specs.declared.id.ObjectId.{ObjectId}
+use Rattle.fetch_base.specs.contracts.id.ObjectIdOrd.TheImpl as order
 use Rattle.fetch_store.specs.Graph.{Graph}
-use Rattle.fetch_store.specs.Stores.{id_cmp}
-use Rattle.fetch_store.proofs.Ids.{id_cmp_exact, id_cmp_total}
-use Rattle.fetch_store.proofs.Orders.{cmp_is}
+use Rattle.fetch_base.specs.Id.{id_cmp}
+use Rattle.fetch_base.proofs.Ids.{id_cmp_exact, id_cmp_total}
+use Rattle.fetch_base.proofs.Orders.{cmp_is}
 use Rattle.fetch_negotiate.specs.declared.frontier.Frontier.{Frontier}
 use Rattle.fetch_negotiate.specs.declared.skips.Skips.{Skips}
 use Rattle.fetch_negotiate.specs.declared.walk.HaveWalk.{HaveWalk}

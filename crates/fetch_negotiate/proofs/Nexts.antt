@@ -10,13 +10,13 @@ use Rattle.std.specs.Cmp.{Equal-is, ranks}
 use Rattle.std.proofs.lemmas.Bool.Decides.{nat_tests}
 use Rattle.std.specs.declared.cmp.Ordering.{Ordering}
 use Rattle.std.specs.declared.cmp.Ordering.TheVariants.{Less, Equal, Greater}
-use Rattle.fetch_store.specs.declared.error.NoMemory.{NoMemory}
-use Rattle.fetch_store.specs.declared.id.ObjectId.{ObjectId}
+use Rattle.fetch_base.specs.declared.error.NoMemory.{NoMemory}
+use Rattle.fetch_base.specs.declared.id.ObjectId.{ObjectId}
 use Rattle.fetch_store.specs.Graph.{Graph}
-use Rattle.fetch_store.specs.Stores.{id_cmp}
+use Rattle.fetch_base.specs.Id.{id_cmp}
 use Rattle.fetch_store.proofs.Borders.{any-filter}
 use Rattle.fetch_store.proofs.Finds.{ties}
-use Rattle.fetch_store.proofs.Ids.{id_cmp_exact, id_cmp_total}
+use Rattle.fetch_base.proofs.Ids.{id_cmp_exact, id_cmp_total}
 use Rattle.fetch_negotiate.specs.declared.commits.Commit.{Commit}
 use Rattle.fetch_negotiate.specs.Ancestors.{links_of}
 use Rattle.fetch_negotiate.specs.Commits.{has, commit_of}

@@ -9,10 +9,10 @@ use Rattle.std.specs.Ordering.{eq_by_cmp}
 use Rattle.std.specs.Cmp.{eq_by_cmp_equiv}
 use Rattle.std.proofs.lemmas.Bool.Decides.{nat_tests}
 use Rattle.std.proofs.lemmas.List.Elements.{All-append, All-from_recursion, recursion_from_All}
-use Rattle.fetch_store.specs.declared.id.ObjectId.{ObjectId}
+use Rattle.fetch_base.specs.declared.id.ObjectId.{ObjectId}
 use Rattle.fetch_store.specs.Graph.{Graph, Node}
-use Rattle.fetch_store.specs.Stores.{id_cmp}
-use Rattle.fetch_store.proofs.Ids.{id_cmp_total}
+use Rattle.fetch_base.specs.Id.{id_cmp}
+use Rattle.fetch_base.proofs.Ids.{id_cmp_total}
 use Rattle.fetch_store.proofs.Pigeons.{no_more, are_distinct}
 use Rattle.fetch_refs.proofs.Walks.{distinct_more}
 use Rattle.fetch_negotiate.specs.declared.algorithm.Algorithm.{Algorithm}

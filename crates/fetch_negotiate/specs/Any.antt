@@ -1,9 +1,9 @@
 -- What the negotiator of an algorithm tells.
 use Rattle.std.specs.Prelude.{List, [], None}
 use Rattle.std.specs.FinSet as set
-use Rattle.fetch_store.specs.declared.id.ObjectId.{ObjectId}
+use Rattle.fetch_base.specs.declared.id.ObjectId.{ObjectId}
 use Rattle.fetch_store.specs.Graph.{Graph}
-use Rattle.fetch_store.specs.Stores.{id_cmp}
+use Rattle.fetch_base.specs.Id.{id_cmp}
 use Rattle.fetch_negotiate.specs.declared.algorithm.Algorithm.{Algorithm}
 use Rattle.fetch_negotiate.specs.declared.algorithm.Algorithm.TheVariants as algorithms
 use Rattle.fetch_negotiate.specs.declared.any.AnyNegotiator.{AnyNegotiator}

@@ -1,9 +1,9 @@
 -- That marks say what the definition says.
 use Rattle.std.specs.Prelude.{◌≡◌, true, List, is_some}
 use Rattle.std.specs.FinSet as set
-use Rattle.fetch_store.specs.declared.id.ObjectId.{ObjectId}
+use Rattle.fetch_base.specs.declared.id.ObjectId.{ObjectId}
 use Rattle.fetch_store.specs.Graph.{Graph}
-use Rattle.fetch_store.specs.Stores.{id_cmp}
+use Rattle.fetch_base.specs.Id.{id_cmp}
 use Rattle.fetch_negotiate.specs.Commits.{has, commit_of}
 use Rattle.fetch_negotiate.specs.Haves.{is_common}
 

@@ -1,8 +1,8 @@
 -- Lists of ids.
 use Rattle.std.specs.Prelude.{not, List, [], ◌∷◌, filter}
 use Rattle.std.specs.Ordering.{eq_by_cmp}
-use Rattle.fetch_store.specs.declared.id.ObjectId.{ObjectId}
-use Rattle.fetch_store.specs.Stores.{id_cmp}
+use Rattle.fetch_base.specs.declared.id.ObjectId.{ObjectId}
+use Rattle.fetch_base.specs.Id.{id_cmp}
 
 -- each id once, where it comes first
 abbrev pub firsts : List ObjectId → List ObjectId

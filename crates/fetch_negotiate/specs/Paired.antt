@@ -2,8 +2,8 @@
 use Rattle.std.specs.Prelude.{◌≡◌, ℕ, ◌≤◌, length, take, unwrap_or}
 use Rattle.std.specs.BTreeMap as tree
 use Rattle.std.specs.BTreeMap.{BTreeMap}
-use Rattle.fetch_store.specs.declared.id.ObjectId.{ObjectId}
-use Rattle.fetch_store.specs.Stores.{id_cmp}
+use Rattle.fetch_base.specs.declared.id.ObjectId.{ObjectId}
+use Rattle.fetch_base.specs.Id.{id_cmp}
 use Rattle.fetch_negotiate.specs.declared.skip.Skip.{Skip}
 use Rattle.fetch_negotiate.specs.declared.skips.Skips.{Skips}
 use Rattle.fetch_negotiate.specs.Skips.{Pairs, no_skip, pair_of}

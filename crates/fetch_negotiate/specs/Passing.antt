@@ -1,6 +1,6 @@
 -- What the algorithm that passes commits over comes to, with no bound on its steps.
 use Rattle.std.specs.Prelude.{◌≡◌, true, false, List, [], ◌∷◌, ◌++◌, Option, Some, None}
-use Rattle.fetch_store.specs.declared.id.ObjectId.{ObjectId}
+use Rattle.fetch_base.specs.declared.id.ObjectId.{ObjectId}
 use Rattle.fetch_store.specs.Graph.{Graph}
 use Rattle.fetch_negotiate.specs.Haves.{Negotiation, taking, next_taken}
 use Rattle.fetch_negotiate.specs.Skips.{Offer, offers}

@@ -1,7 +1,7 @@
 -- The rounds of a negotiation: its requests one after another.
 use Rattle.std.specs.Prelude.{◌≡◌, ℕ, Bool, List, [], ◌∷◌, length, fold, nat_lt}
 use Rattle.std.specs.List.{flat_map}
-use Rattle.fetch_store.specs.declared.id.ObjectId.{ObjectId}
+use Rattle.fetch_base.specs.declared.id.ObjectId.{ObjectId}
 use Rattle.fetch_store.specs.Graph.{Graph}
 use Rattle.fetch_negotiate.specs.declared.algorithm.Algorithm.{Algorithm}
 use Rattle.fetch_negotiate.specs.declared.algorithm.Round.{Round}

@@ -3,9 +3,9 @@ use Rattle.std.specs.Prelude.{◌≡◌, Bool, List}
 use Rattle.std.specs.FinSet as set
 use Rattle.std.specs.List.{list_any}
 use Rattle.std.specs.Prelude.{is_some}
-use Rattle.fetch_store.specs.declared.id.ObjectId.{ObjectId}
+use Rattle.fetch_base.specs.declared.id.ObjectId.{ObjectId}
 use Rattle.fetch_store.specs.Graph.{Graph}
-use Rattle.fetch_store.specs.Stores.{id_cmp}
+use Rattle.fetch_base.specs.Id.{id_cmp}
 use Rattle.fetch_negotiate.specs.declared.skip.Skip.{Skip}
 use Rattle.fetch_negotiate.specs.declared.skips.Skips.{Skips}
 use Rattle.fetch_negotiate.specs.declared.walk.HaveWalk.{HaveWalk}

@@ -1,6 +1,6 @@
 -- Where nothing was read, each graph tells it.
 use Rattle.std.specs.Prelude.{◌≡◌, Option, Some, None}
-use Rattle.fetch_store.specs.declared.id.ObjectId.{ObjectId}
+use Rattle.fetch_base.specs.declared.id.ObjectId.{ObjectId}
 use Rattle.fetch_store.specs.Graph.{Graph}
 use Rattle.fetch_negotiate.specs.declared.commits.Commit.{Commit}
 use Rattle.fetch_negotiate.specs.Commits.{commit_of}

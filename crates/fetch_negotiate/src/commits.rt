@@ -2,8 +2,8 @@
 
 ghost use Rattle.std.specs.Prelude.{◌≡◌, IfOk, OnOk, Some, is_some, option_map};
 ghost use Rattle.std.specs.BTreeMap.{insert_entry};
-ghost use Rattle.fetch_store.specs.declared.id.ObjectId.{ObjectId};
-ghost use Rattle.fetch_store.specs.Stores.{id_cmp};
+ghost use Rattle.fetch_base.specs.declared.id.ObjectId.{ObjectId};
+ghost use Rattle.fetch_base.specs.Id.{id_cmp};
 ghost use Rattle.fetch_negotiate.specs.Commits.{commit_of, parents_in};
 ghost use Rattle.fetch_negotiate.specs.Reading.{Grows, IsTold, read_in};
 

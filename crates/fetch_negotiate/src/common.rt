@@ -2,7 +2,7 @@
 
 ghost use Rattle.std.specs.Prelude.{◌≡◌, [], ◌∷◌, ◌++◌, true, IfOk, OnOk, OnErr, is_some, if◌then◌else◌};
 ghost use Rattle.std.specs.FinSet as set;
-ghost use Rattle.fetch_store.specs.Stores.{id_cmp};
+ghost use Rattle.fetch_base.specs.Id.{id_cmp};
 ghost use Rattle.fetch_negotiate.specs.Commits.{has};
 ghost use Rattle.fetch_negotiate.specs.Copies.{IsSameCommon};
 ghost use Rattle.fetch_negotiate.specs.Exact.{IsExact};

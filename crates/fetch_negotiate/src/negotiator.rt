@@ -2,7 +2,7 @@
 
 ghost use Rattle.std.specs.Prelude.{◌≡◌, ◌++◌, false, List, IfOk, IfSome, OnErr};
 ghost use Rattle.std.specs.Option.{option_to_list};
-ghost use Rattle.fetch_store.specs.declared.id.ObjectId.{ObjectId};
+ghost use Rattle.fetch_base.specs.declared.id.ObjectId.{ObjectId};
 ghost use Rattle.fetch_negotiate.specs.Commits.{IsStoredCommit, has};
 ghost use Rattle.fetch_negotiate.specs.Reading.{IsTold, Read};
 

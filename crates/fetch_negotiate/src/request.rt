@@ -7,7 +7,7 @@ ghost use Rattle.fetch_wire.specs.declared.error.WireError.TheVariants as errors
 ghost use Rattle.fetch_negotiate.specs.Lists.{firsts};
 ghost use Rattle.fetch_negotiate.specs.Requests as spec;
 ghost use Rattle.hex.specs.Hex.{encode_lower};
-ghost use Rattle.fetch_store.specs.Id.{bytes_of};
+ghost use Rattle.fetch_base.specs.Id.{bytes_of};
 ghost use Rattle.fetch_wire.specs.RequestWords.{not_word, deepen_word, relative_word};
 ghost use Rattle.fetch_wire.specs.RequestLines.{id_lines};
 

@@ -2,7 +2,7 @@
 
 ghost use Rattle.std.specs.Prelude.{◌≡◌, ◌-◌, ◌++◌, ◌∷◌, [], length, take};
 ghost use Rattle.std.specs.Ordering.{eq_by_cmp};
-ghost use Rattle.fetch_store.specs.Stores.{id_cmp};
+ghost use Rattle.fetch_base.specs.Id.{id_cmp};
 ghost use Rattle.fetch_negotiate.specs.Commits.{has};
 ghost use Rattle.fetch_negotiate.specs.Paired.{IsPaired};
 ghost use Rattle.fetch_negotiate.specs.Sharing.{IsMarked};
@@ -108,7 +108,7 @@ fn is_among(ids: &[ObjectId], id: &ObjectId) -> bool
     false
 }
 
-#[tactic(auto, using(fetch_store::proofs::Orders::eq_is))]
+#[tactic(auto, using(fetch_base::proofs::Orders::eq_is))]
 fn is_same(id: &ObjectId, other: &ObjectId) -> bool
     ensures { result ≡ eq_by_cmp id_cmp id.now other.now }
 {

@@ -3,8 +3,8 @@
 ghost use Rattle.std.specs.Prelude.{◌≡◌, [], Some, Result, IfOk};
 ghost use Rattle.std.specs.FinMap as map;
 ghost use Rattle.std.specs.List.{filter_map};
-ghost use Rattle.fetch_store.specs.declared.id.ObjectId.{ObjectId};
-ghost use Rattle.fetch_store.specs.Answers.{AnswersUnless};
+ghost use Rattle.fetch_base.specs.declared.id.ObjectId.{ObjectId};
+ghost use Rattle.fetch_base.specs.Answers.{AnswersUnless};
 ghost use Rattle.fetch_refs.specs.Answers.{is_memory};
 ghost use Rattle.fetch_refs.specs.declared.error.RefError.{RefError};
 ghost use Rattle.fetch_refs.specs.Peeled.{through};

@@ -9,16 +9,17 @@ use Rattle.std.specs.FinMap.{find}
 use Rattle.std.specs.declared.cmp.Ordering.{Ordering}
 use Rattle.std.proofs.lemmas.List.{append-nil, append_assoc, length-append, get_or_append_left}
 use Rattle.std.proofs.Math.Seq.{get_or-append_seam, take-append_seam}
-use Rattle.fetch_store.specs.declared.id.ObjectId.{ObjectId}
-use Rattle.fetch_store.specs.contracts.id.ObjectIdOrd.TheImpl as order
+use Rattle.fetch_base.specs.declared.id.ObjectId.{ObjectId}
+use Rattle.fetch_base.specs.contracts.id.ObjectIdOrd.TheImpl as order
 use Rattle.fetch_store.specs.Objects.{Stored, has_same_text}
 use Rattle.fetch_store.specs.Collisions.{HasDistinctIds}
-use Rattle.fetch_store.specs.Stores.{id_cmp, Entries, ObjectMap, map_of, add, clashes, collision}
-use Rattle.fetch_store.proofs.Ids.{id_cmp_exact}
+use Rattle.fetch_store.specs.Stores.{Entries, ObjectMap, map_of, add, clashes, collision}
+use Rattle.fetch_base.specs.Id.{id_cmp}
+use Rattle.fetch_base.proofs.Ids.{id_cmp_exact}
 use Rattle.fetch_store.proofs.Additions.{map_of-push, add-known}
 use Rattle.fetch_store.proofs.Apart.{first_time}
 use Rattle.fetch_store.proofs.Finds.{ties, not_tied, get-map_of}
-use Rattle.fetch_store.proofs.Orders.{cmp_is}
+use Rattle.fetch_base.proofs.Orders.{cmp_is}
 use Rattle.fetch_pack.specs.declared.error.PackError.{PackError}
 use Rattle.fetch_pack.specs.declared.error.PackError.TheVariants.{Collision}
 use Rattle.fetch_pack.specs.Reading.{is_id, once_from, paired, unless}

@@ -8,16 +8,16 @@ use Rattle.std.proofs.lemmas.Bool.{eqb-true}
 use Rattle.std.proofs.lemmas.Bool.Decides.{Decides-eqb}
 use Rattle.std.proofs.lemmas.Slice.Eq.{starts_is}
 use Rattle.std.proofs.lemmas.List.{take_at, length-append, length-map, drop-drop}
-use Rattle.fetch_store.specs.declared.id.Kind.{Kind}
-use Rattle.fetch_store.specs.declared.id.Kind.TheVariants as kinds
-use Rattle.fetch_store.specs.declared.id.ObjectId.{ObjectId}
-use Rattle.fetch_store.specs.Id.{byte_len, id_of_bytes, bytes_of, kind_of}
-use Rattle.fetch_store.specs.Hashing.{digest, id_of}
+use Rattle.fetch_base.specs.declared.id.Kind.{Kind}
+use Rattle.fetch_base.specs.declared.id.Kind.TheVariants as kinds
+use Rattle.fetch_base.specs.declared.id.ObjectId.{ObjectId}
+use Rattle.fetch_base.specs.Id.{byte_len, id_of_bytes, bytes_of, kind_of, id_cmp}
+use Rattle.fetch_base.specs.Hashing.{digest, id_of}
 use Rattle.fetch_store.specs.Objects.{Stored, IsObject, is_object}
-use Rattle.fetch_store.specs.Stores.{Entries, id_cmp, collision}
-use Rattle.fetch_store.proofs.Ids.{id_cmp_exact}
+use Rattle.fetch_store.specs.Stores.{Entries, collision}
+use Rattle.fetch_base.proofs.Ids.{id_cmp_exact}
 use Rattle.fetch_store.proofs.Finds.{ties}
-use Rattle.fetch_store.proofs.Digests.{length-digest, id-digest, bytes-id}
+use Rattle.fetch_base.proofs.Digests.{length-digest, id-digest, bytes-id}
 use Rattle.std.specs.Cmp.{Equal-is}
 use Rattle.fetch_pack.specs.declared.error.PackError.{PackError}
 use Rattle.fetch_pack.specs.declared.error.PackError.TheVariants.{Malformed, PackDigest, IdMismatch}
@@ -25,7 +25,7 @@ use Rattle.fetch_pack.specs.declared.reading.Pack.{Pack}
 use Rattle.fetch_pack.specs.declared.version.PackVersion.{PackVersion}
 use Rattle.fetch_pack.specs.declared.version.PackVersion.TheVariants.{V1, V2}
 use Rattle.fetch_pack.specs.Records.{Payload, Written, Records, Fits, IsRecord, AreRecords, record_text, mark, version_text, id_text, id_len, limit_of, head_of, body_of, text_of, under_its_id, under_their_ids, body, number_at, records}
-use Rattle.fetch_store.specs.Answers.{AnswersBy}
+use Rattle.fetch_base.specs.Answers.{AnswersBy}
 use Rattle.fetch_pack.specs.Reading.{◌>>=◌, is_memory, Frame, ended, counted, version_at, versioned, structure, is_id, with_digest, record_len, stored, parsed, all_parsed, ids_of, compared, with_ids, paired, once_from, Contents, unless, distinct, read}
 use Rattle.fetch_pack.specs.Views.{contents}
 use Rattle.fetch_pack.specs.Packs.{entry, entries, IsPack, contents_of}

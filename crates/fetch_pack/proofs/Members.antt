@@ -1,9 +1,9 @@
 -- What holds of the objects that a pack gives.
 use Rattle.std.proofs.Common.{◌≡◌, ℕ, List, [], ◌∷◌, Result, Ok, Err, IfOk, refl, sym, subst, arith}
-use Rattle.fetch_store.specs.declared.id.Kind.{Kind}
-use Rattle.fetch_store.specs.declared.id.Kind.TheVariants as kinds
-use Rattle.fetch_store.specs.Id.{kind_of}
-use Rattle.fetch_store.specs.Hashing.{digest, id_of}
+use Rattle.fetch_base.specs.declared.id.Kind.{Kind}
+use Rattle.fetch_base.specs.declared.id.Kind.TheVariants as kinds
+use Rattle.fetch_base.specs.Id.{kind_of}
+use Rattle.fetch_base.specs.Hashing.{digest, id_of}
 use Rattle.fetch_store.specs.Stores.{AreOf}
 use Rattle.fetch_pack.specs.declared.error.PackError.{PackError}
 use Rattle.fetch_pack.specs.declared.reading.Pack.{Pack}

@@ -1,13 +1,13 @@
 -- Parsing payloads one after the other, as a loop does.
 use Rattle.std.proofs.Common.{◌≡◌, ℕ, ◌-◌, ◌+◌, ◌≤◌, ◌<◌, List, [], ◌∷◌, ◌++◌, length, Some, None, Result, Ok, Err, refl, sym, ap, subst, ◌∙◌, append_assoc, arith}
 use Rattle.std.proofs.lemmas.List.{append-nil}
-use Rattle.fetch_store.specs.declared.id.Kind.{Kind}
+use Rattle.fetch_base.specs.declared.id.Kind.{Kind}
 use Rattle.fetch_store.specs.Objects.{Stored}
 use Rattle.fetch_pack.specs.declared.error.PackError.{PackError}
 use Rattle.fetch_pack.specs.declared.error.PackError.TheVariants.{Malformed, PackDigest, IdMismatch, Collision, NoMemory}
 use Rattle.fetch_pack.specs.declared.version.PackVersion.{PackVersion}
 use Rattle.fetch_pack.specs.Records.{Written, Records, records, record_at}
-use Rattle.fetch_store.specs.Answers.{AnswersUnless}
+use Rattle.fetch_base.specs.Answers.{AnswersUnless}
 use Rattle.fetch_pack.specs.Reading.{◌>>=◌, is_memory, record_len, parsed, all_parsed}
 use Rattle.fetch_pack.proofs.Steps.{record_is, records_step, records_end}
 

@@ -8,21 +8,21 @@ use Rattle.std.specs.FinMap as finmap
 use Rattle.std.proofs.lemmas.Bool.{eqb-true}
 use Rattle.std.proofs.lemmas.List.{length-append}
 use Rattle.std.proofs.lemmas.List.Sums.{sum_by-cons}
-use Rattle.fetch_store.specs.declared.id.Kind.{Kind}
-use Rattle.fetch_store.specs.declared.id.ObjectId.{ObjectId}
-use Rattle.fetch_store.specs.Id.{byte_len, id_of_bytes, bytes_of, kind_of}
-use Rattle.fetch_store.specs.Hashing.{digest, id_of}
+use Rattle.fetch_base.specs.declared.id.Kind.{Kind}
+use Rattle.fetch_base.specs.declared.id.ObjectId.{ObjectId}
+use Rattle.fetch_base.specs.Id.{byte_len, id_of_bytes, bytes_of, kind_of}
+use Rattle.fetch_base.specs.Hashing.{digest, id_of}
 use Rattle.fetch_store.specs.Objects.{IsObject, is_object}
 use Rattle.fetch_store.specs.Stores.{Entries, collision}
 use Rattle.fetch_store.proofs.Finds.{ties}
-use Rattle.fetch_store.proofs.Digests.{bytes-id}
+use Rattle.fetch_base.proofs.Digests.{bytes-id}
 use Rattle.fetch_pack.specs.declared.error.PackError.{PackError}
 use Rattle.fetch_pack.specs.declared.error.PackError.TheVariants.{Malformed, PackDigest, IdMismatch, Collision, NoMemory}
 use Rattle.fetch_pack.specs.declared.reading.Pack.{Pack}
 use Rattle.fetch_pack.specs.declared.version.PackVersion.{PackVersion}
 use Rattle.fetch_pack.specs.declared.version.PackVersion.TheVariants.{V1, V2}
 use Rattle.fetch_pack.specs.Records.{Payload, Written, AreRecords, onto, record_text, mark, version_text, head_of, body_of, text_of, under_its_id, under_their_ids, number_at, record_at, records}
-use Rattle.fetch_store.specs.Answers.{AnswersBy, AnswersUnless}
+use Rattle.fetch_base.specs.Answers.{AnswersBy, AnswersUnless}
 use Rattle.fetch_pack.specs.Reading.{◌>>=◌, is_memory, Frame, ended, counted, version_at, versioned, structure, is_id, with_digest, record_len, stored, parsed, all_parsed, ids_of, compared, with_ids, paired, once_from, unless, distinct, read}
 use Rattle.fetch_pack.specs.Views.{contents}
 use Rattle.fetch_pack.specs.Packs.{entries}

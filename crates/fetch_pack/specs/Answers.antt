@@ -1,9 +1,9 @@
 -- What reading a text as a pack answers.
 use Rattle.std.specs.Prelude.{◌≡◌, ℕ, List, Result, Ok, Err, IfOk, IfErr}
-use Rattle.fetch_store.specs.Answers.{AnswersBy}
+use Rattle.fetch_base.specs.Answers.{AnswersBy}
 use Rattle.fetch_store.specs.Collisions.{HasDistinctIds}
 use Rattle.fetch_store.specs.Stores.{AreOf}
-use Rattle.fetch_store.specs.declared.id.Kind.{Kind}
+use Rattle.fetch_base.specs.declared.id.Kind.{Kind}
 use Rattle.fetch_pack.specs.declared.error.PackError.{PackError}
 use Rattle.fetch_pack.specs.declared.reading.Pack.{Pack}
 use Rattle.fetch_pack.specs.declared.version.PackVersion.{PackVersion}

@@ -4,12 +4,12 @@ use Rattle.std.specs.Prelude.{take, drop, Option, Some, None, Result, Ok, Err}
 use Rattle.std.specs.List.{starts_with, list_any}
 use Rattle.std.specs.Ordering.{eq_by_cmp}
 use Rattle.std.specs.FinMap as finmap
-use Rattle.fetch_store.specs.declared.id.Kind.{Kind}
-use Rattle.fetch_store.specs.declared.id.ObjectId.{ObjectId}
-use Rattle.fetch_store.specs.Id.{byte_len, id_of_bytes}
-use Rattle.fetch_store.specs.Hashing.{digest, id_of}
+use Rattle.fetch_base.specs.declared.id.Kind.{Kind}
+use Rattle.fetch_base.specs.declared.id.ObjectId.{ObjectId}
+use Rattle.fetch_base.specs.Id.{byte_len, id_of_bytes, id_cmp}
+use Rattle.fetch_base.specs.Hashing.{digest, id_of}
 use Rattle.fetch_store.specs.Objects.{Stored, is_object}
-use Rattle.fetch_store.specs.Stores.{id_cmp, Entries, collision}
+use Rattle.fetch_store.specs.Stores.{Entries, collision}
 use Rattle.fetch_pack.specs.declared.error.PackError.{PackError}
 use Rattle.fetch_pack.specs.declared.error.PackError.TheVariants.{Malformed, PackDigest, IdMismatch, Collision, NoMemory}
 use Rattle.fetch_pack.specs.declared.version.PackVersion.{PackVersion}

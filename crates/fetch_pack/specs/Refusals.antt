@@ -2,10 +2,10 @@
 use Rattle.std.specs.Prelude.{◌≡◌, ◌≢◌, ℕ, ◌+◌, ◌<◌, ◌^◌, List, ◌∷◌, ◌++◌, length, sum_by, Some}
 use Rattle.std.specs.List.{flat_map, AllByRecursion}
 use Rattle.std.specs.FinMap as finmap
-use Rattle.fetch_store.specs.declared.id.Kind.{Kind}
-use Rattle.fetch_store.specs.declared.id.ObjectId.{ObjectId}
-use Rattle.fetch_store.specs.Id.{byte_len, bytes_of, kind_of}
-use Rattle.fetch_store.specs.Hashing.{digest, id_of}
+use Rattle.fetch_base.specs.declared.id.Kind.{Kind}
+use Rattle.fetch_base.specs.declared.id.ObjectId.{ObjectId}
+use Rattle.fetch_base.specs.Id.{byte_len, bytes_of, kind_of}
+use Rattle.fetch_base.specs.Hashing.{digest, id_of}
 use Rattle.fetch_store.specs.Objects.{IsObject}
 use Rattle.fetch_store.specs.Stores.{collision}
 use Rattle.fetch_pack.specs.declared.error.PackError.{PackError}

@@ -2,7 +2,7 @@
 use Rattle.fetch_pack.specs.declared.records.Record.{Record}
 use Rattle.fetch_pack.specs.declared.reading.Framed.{Framed}
 use Rattle.fetch_pack.specs.declared.reading.Pack.{Pack}
-use Rattle.fetch_store.specs.declared.id.Kind.{Kind}
+use Rattle.fetch_base.specs.declared.id.Kind.{Kind}
 use Rattle.fetch_pack.specs.Records.{Written, records}
 use Rattle.fetch_pack.specs.Reading.{Frame, Contents}
 

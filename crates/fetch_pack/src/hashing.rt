@@ -2,7 +2,7 @@
 
 ghost use Rattle.std.specs.Prelude.{◌≡◌, ℕ, ◌*◌, ◌+◌, ◌<◌, ◌≤◌, min, max, length, get_or, IfOk};
 ghost use Rattle.fetch_store.specs.Objects.{Stored};
-ghost use Rattle.fetch_store.specs.declared.id.ObjectId.{ObjectId as Id};
+ghost use Rattle.fetch_base.specs.declared.id.ObjectId.{ObjectId as Id};
 ghost use Rattle.fetch_pack.specs.Reading.{hashed, ids_of};
 
 use fetch_store::{Kind, NoMemory, Object, ObjectId, id_of};

@@ -4,11 +4,11 @@ ghost use Rattle.std.specs.Prelude.{◌≡◌, ◌<◌, IfOk, get_or, length, ve
 ghost use Rattle.std.specs.BTreeMap as tree;
 ghost use Rattle.std.specs.FinMap as map;
 ghost use Rattle.std.specs.Option.{option_copied};
-ghost use Rattle.fetch_store.specs.declared.id.ObjectId.{ObjectId as Id};
+ghost use Rattle.fetch_base.specs.declared.id.ObjectId.{ObjectId as Id};
 ghost use Rattle.fetch_store.specs.Objects.{Stored};
-ghost use Rattle.fetch_store.specs.Stores.{id_cmp};
+ghost use Rattle.fetch_base.specs.Id.{id_cmp};
 ghost use Rattle.fetch_pack.specs.Reading as spec;
-ghost use Rattle.fetch_store.specs.Answers.{AnswersBy};
+ghost use Rattle.fetch_base.specs.Answers.{AnswersBy};
 ghost use Rattle.fetch_pack.specs.Reading.{is_memory};
 ghost use Rattle.fetch_pack.specs.Places.{ArePlaces};
 

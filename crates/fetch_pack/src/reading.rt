@@ -3,7 +3,7 @@
 ghost use Rattle.std.specs.Prelude.{◌≡◌, ◌+◌, ◌-◌, ◌≤◌, length, [], Ok, IfOk, IfErr, IfSome};
 ghost use Rattle.fetch_store.specs.Stores.{Entries};
 ghost use Rattle.fetch_pack.specs.Reading as spec;
-ghost use Rattle.fetch_store.specs.Answers.{Answers, AnswersBy};
+ghost use Rattle.fetch_base.specs.Answers.{Answers, AnswersBy};
 ghost use Rattle.fetch_pack.specs.Reading.{is_memory};
 ghost use Rattle.fetch_pack.specs.Records.{records};
 ghost use Rattle.fetch_pack.specs.Answers.{IsReading};

@@ -2,9 +2,9 @@
 use Rattle.std.proofs.Common.{◌≡◌, ℕ, Bool, true, false, List, Option, Some, None, refl, ap, ◌∙◌, subst, arith}
 use Rattle.std.specs.Prelude.{if◌then◌else◌}
 use Rattle.std.specs.FinMap as finmap
-use Rattle.fetch_store.specs.Faults.{Faults, Rose, Counts}
-use Rattle.fetch_store.specs.FileCalls.{IsRefused as IsBlocked}
-use Rattle.fetch_store.specs.Trees.{Tree}
+use Rattle.fetch_base.specs.Faults.{Faults, Rose, Counts}
+use Rattle.fetch_files.specs.FileCalls.{IsRefused as IsBlocked}
+use Rattle.fetch_files.specs.Trees.{Tree}
 use Rattle.fetch_update.specs.declared.update.Error.{Error as UpdateError}
 use Rattle.fetch_update.specs.declared.update.Error.TheVariants as update
 use Rattle.fetch_wire.specs.Talks.{Talk}

@@ -1,8 +1,8 @@
 -- The fetch of a job, from what a fetch over a shared repository says.
 use Rattle.std.proofs.Common.{◌≡◌, true, false, List, Option, Some, None, Ok, Err, refl, sym, subst}
 use Rattle.std.specs.FinMap as map
-use Rattle.fetch_store.specs.Faults.{Counts-none}
-use Rattle.fetch_store.specs.Trees.{Tree}
+use Rattle.fetch_base.specs.Faults.{Counts-none}
+use Rattle.fetch_files.specs.Trees.{Tree}
 use Rattle.fetch_update.specs.declared.worktrees.Worktree.{Worktree}
 use Rattle.fetch_conversation.specs.Blame.{BlamesPeer}
 use Rattle.fetch_remote.specs.declared.fetching.options.FetchOptions.{FetchOptions}

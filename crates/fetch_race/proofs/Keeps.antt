@@ -5,11 +5,11 @@ use Rattle.std.specs.FinMap as finmap
 use Rattle.std.specs.FinMap.{get-empty}
 use Rattle.std.specs.List.{list_any, slice_split, onto_first}
 use Rattle.hex.specs.Hex.{encode_lower}
-use Rattle.fetch_store.specs.Id.{bytes_of}
-use Rattle.fetch_store.specs.Paths.{Path, path_cmp, is_root, is_part, parts_of, parents_of}
-use Rattle.fetch_store.specs.Trees.{Tree, node_at, is_file, is_directory, is_blocked, with_each, written}
-use Rattle.fetch_store.specs.declared.id.ObjectId.{ObjectId}
-use Rattle.fetch_store.specs.declared.node.TreeNode.TheVariants.{File, Directory}
+use Rattle.fetch_base.specs.Id.{bytes_of}
+use Rattle.fetch_files.specs.Paths.{Path, path_cmp, is_root, is_part, parts_of, parents_of}
+use Rattle.fetch_files.specs.Trees.{Tree, node_at, is_file, is_directory, is_blocked, with_each, written}
+use Rattle.fetch_base.specs.declared.id.ObjectId.{ObjectId}
+use Rattle.fetch_files.specs.declared.node.TreeNode.TheVariants.{File, Directory}
 use Rattle.fetch_remote.specs.Keeping.{made}
 use Rattle.fetch_remote.specs.Paths.{keep_path}
 

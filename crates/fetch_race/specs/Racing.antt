@@ -1,8 +1,8 @@
 -- Jobs that are done side by side, each by a pass of its own, over one repository.
 use Rattle.std.specs.Prelude.{◌≡◌, ℕ, ◌≤◌, Bool, true, false, ◌||◌, List, [], length, Option, Some, Result, Ok, Err, IfErr, slice_get}
 use Rattle.std.specs.FinMap as map
-use Rattle.fetch_store.specs.Faults.{Faults}
-use Rattle.fetch_store.specs.Trees.{Tree}
+use Rattle.fetch_base.specs.Faults.{Faults}
+use Rattle.fetch_files.specs.Trees.{Tree}
 use Rattle.fetch_update.specs.declared.worktrees.Worktree.{Worktree}
 use Rattle.fetch_wire.specs.Talks.{Talk}
 use Rattle.fetch_conversation.specs.Blame.{BlamesPeer, is_told}

@@ -3,7 +3,7 @@ use Rattle.std.proofs.Common.{◌≡◌, Bool, true, false, List, [], get_or, Co
 use Rattle.std.specs.Prelude.{if◌then◌else◌}
 use Rattle.std.specs.FinSet as set
 use Rattle.std.proofs.lemmas.List.Elements.{All-weaker}
-use Rattle.fetch_store.specs.declared.id.ObjectId.{ObjectId}
+use Rattle.fetch_base.specs.declared.id.ObjectId.{ObjectId}
 use Rattle.fetch_store.specs.Objects.{Stored}
 use Rattle.fetch_store.specs.Stores.{Entries, add_all}
 use Rattle.fetch_store.specs.Closed.{Holding, IsStored, links, others}

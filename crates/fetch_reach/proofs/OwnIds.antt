@@ -5,13 +5,14 @@ use Rattle.std.specs.FinMap.Entries.{below_all}
 use Rattle.std.specs.Cmp.{tied_itself}
 use Rattle.std.specs.declared.cmp.Ordering.TheVariants.{Less, Equal, Greater}
 use Rattle.std.proofs.lemmas.List.Elements.{All-head, All-tail, All-cons, All-contains, Contains-append_right, Contains-append_cases}
-use Rattle.fetch_store.specs.declared.id.Kind.{Kind}
-use Rattle.fetch_store.specs.declared.id.ObjectId.{ObjectId}
+use Rattle.fetch_base.specs.declared.id.Kind.{Kind}
+use Rattle.fetch_base.specs.declared.id.ObjectId.{ObjectId}
 use Rattle.fetch_store.specs.Objects.{Stored}
-use Rattle.fetch_store.specs.Stores.{id_cmp, AreOf, Entries, ObjectMap}
+use Rattle.fetch_store.specs.Stores.{AreOf, Entries, ObjectMap}
+use Rattle.fetch_base.specs.Id.{id_cmp}
 use Rattle.fetch_store.proofs.Arranged.{halves, Contains-found, consistent_in_order, rises_at}
 use Rattle.fetch_store.proofs.Borders.{reversed}
-use Rattle.fetch_store.proofs.Ids.{id_cmp_total}
+use Rattle.fetch_base.proofs.Ids.{id_cmp_total}
 use Rattle.fetch_store.proofs.Lists.{All-find, All-of}
 use Rattle.fetch_store.proofs.Members.{first_in, cases_in}
 use Rattle.fetch_reach.specs.Named.{own_id, AreOwnIds, IsFirstMisnamed}

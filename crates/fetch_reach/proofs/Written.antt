@@ -12,16 +12,17 @@ use Rattle.std.proofs.lemmas.List.Elements.{All-head, All-tail, All-contains, Al
 use Rattle.std.proofs.lemmas.Grind.{flat_map-append}
 use Rattle.std.proofs.lemmas.List.Kept.{AllPairs-cons}
 use Rattle.std.proofs.lemmas.Map.Keys.{sorted_head, sorted_tail}
-use Rattle.fetch_store.specs.declared.id.Kind.{Kind}
-use Rattle.fetch_store.specs.declared.id.ObjectId.{ObjectId}
-use Rattle.fetch_store.specs.Hashing.{digest, id_of}
+use Rattle.fetch_base.specs.declared.id.Kind.{Kind}
+use Rattle.fetch_base.specs.declared.id.ObjectId.{ObjectId}
+use Rattle.fetch_base.specs.Hashing.{digest, id_of}
 use Rattle.fetch_store.specs.Objects.{Stored, IsObject}
 use Rattle.fetch_store.specs.Closed.{AreAllOf}
 use Rattle.fetch_store.specs.Collisions.{HasDistinctIds, AreAtOne}
-use Rattle.fetch_store.specs.Stores.{id_cmp, Entries, ObjectMap, collision}
+use Rattle.fetch_store.specs.Stores.{Entries, ObjectMap, collision}
+use Rattle.fetch_base.specs.Id.{id_cmp}
 use Rattle.fetch_store.proofs.Collided.{none_differs}
 use Rattle.fetch_store.proofs.Finds.{not_tied}
-use Rattle.fetch_store.proofs.Ids.{id_cmp_total}
+use Rattle.fetch_base.proofs.Ids.{id_cmp_total}
 use Rattle.fetch_store.proofs.Members.{first_in}
 use Rattle.fetch_pack.specs.declared.version.PackVersion.{PackVersion}
 use Rattle.fetch_pack.specs.Records.{Fits, limit_of, record_text, id_text, under_its_id, under_their_ids, body, pack_text, payload_of, payloads_of}

@@ -1,8 +1,9 @@
 -- Packs that need nothing of who takes them.
 use Rattle.std.specs.Prelude.{List, [], IsSome, All}
 use Rattle.std.specs.FinMap as map
-use Rattle.fetch_store.specs.declared.id.ObjectId.{ObjectId}
-use Rattle.fetch_store.specs.Stores.{id_cmp, Entries}
+use Rattle.fetch_base.specs.declared.id.ObjectId.{ObjectId}
+use Rattle.fetch_store.specs.Stores.{Entries}
+use Rattle.fetch_base.specs.Id.{id_cmp}
 use Rattle.fetch_store.specs.Closed.{links}
 use Rattle.fetch_store.specs.Honest.{Pack, Request}
 

@@ -3,14 +3,15 @@
 
 ghost use Rattle.std.specs.Prelude.{◌≡◌, List, [], Ok, All, Contains, length};
 ghost use Rattle.std.specs.List.Sorted.{IsStrictlySortedBy};
-ghost use Rattle.fetch_store.specs.declared.id.Kind.{Kind};
-ghost use Rattle.fetch_store.specs.declared.id.ObjectId.{ObjectId};
+ghost use Rattle.fetch_base.specs.declared.id.Kind.{Kind};
+ghost use Rattle.fetch_base.specs.declared.id.ObjectId.{ObjectId};
 ghost use Rattle.fetch_store.specs.Closed.{AreAllOf, Holding};
 ghost use Rattle.fetch_store.specs.Collisions.{HasDistinctIds};
-ghost use Rattle.fetch_store.specs.Hashing as hashing;
+ghost use Rattle.fetch_base.specs.Hashing as hashing;
 ghost use Rattle.fetch_store.specs.Honest.{IsHonest, Pack, Request};
 ghost use Rattle.fetch_store.specs.Missing.{missing};
-ghost use Rattle.fetch_store.specs.Stores.{Entries, ObjectMap, id_cmp};
+ghost use Rattle.fetch_store.specs.Stores.{Entries, ObjectMap};
+ghost use Rattle.fetch_base.specs.Id.{id_cmp};
 ghost use Rattle.fetch_pack.specs.Packs.{IsPack};
 ghost use Rattle.fetch_pack.specs.Reading.{once_from, read};
 ghost use Rattle.fetch_pack.specs.Records.{Fits, body, pack_text, payloads_of};

@@ -3,8 +3,8 @@
 ghost use Rattle.std.specs.Prelude.{◌≡◌, ◌↔◌, ◌<◌, Contains, IfOk};
 ghost use Rattle.std.specs.List.Sorted.{IsStrictlySortedBy};
 ghost use Rattle.fetch_store.specs.Closed.{Reached, holding};
-ghost use Rattle.fetch_store.specs.Stores.{id_cmp};
-ghost use Rattle.fetch_store.specs.declared.id.ObjectId.{ObjectId as Id};
+ghost use Rattle.fetch_base.specs.Id.{id_cmp};
+ghost use Rattle.fetch_base.specs.declared.id.ObjectId.{ObjectId as Id};
 
 use fetch_store::{Border, List, NoMemory, ObjectId, Steps, Store, reached};
 use std::alloc::Global;

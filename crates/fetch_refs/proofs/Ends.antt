@@ -5,10 +5,10 @@ use Rattle.std.specs.BTreeMap.{BTreeMap}
 use Rattle.std.specs.Ordering.{eq_by_cmp}
 use Rattle.std.specs.declared.cmp.Ordering.{Ordering}
 use Rattle.fetch_store.specs.Graph.{Graph}
-use Rattle.fetch_store.specs.Stores.{id_cmp}
-use Rattle.fetch_store.specs.contracts.id.ObjectIdOrd.TheImpl as order
-use Rattle.fetch_store.specs.declared.id.ObjectId.{ObjectId}
-use Rattle.fetch_store.proofs.Orders.{cmp_is}
+use Rattle.fetch_base.specs.Id.{id_cmp}
+use Rattle.fetch_base.specs.contracts.id.ObjectIdOrd.TheImpl as order
+use Rattle.fetch_base.specs.declared.id.ObjectId.{ObjectId}
+use Rattle.fetch_base.proofs.Orders.{cmp_is}
 use Rattle.fetch_refs.specs.Leading.{Leads, next_tag}
 use Rattle.fetch_refs.specs.TagEnds.{AreEnds, EndsAt}
 use Rattle.fetch_refs.proofs.TagWays.{exact}

@@ -3,12 +3,12 @@ use Rattle.std.proofs.Common.{◌≡◌, ℕ, ◌+◌, ◌<◌, Bool, true, fals
 use Rattle.std.specs.Char.{is_ascii_uppercase}
 use Rattle.std.specs.List.{list_any}
 use Rattle.hex.specs.Hex.{encode_lower}
-use Rattle.fetch_store.specs.Id.{bytes_of, id_in_hex}
-use Rattle.fetch_store.specs.Lines.{IsWithout}
-use Rattle.fetch_store.specs.Scan.{split_first}
-use Rattle.fetch_store.specs.declared.id.Kind.{Kind}
-use Rattle.fetch_store.specs.declared.id.ObjectId.{ObjectId}
-use Rattle.fetch_store.proofs.LineLaws.{splits}
+use Rattle.fetch_base.specs.Id.{bytes_of, id_in_hex}
+use Rattle.fetch_base.specs.Lines.{IsWithout}
+use Rattle.fetch_base.specs.Scan.{split_first}
+use Rattle.fetch_base.specs.declared.id.Kind.{Kind}
+use Rattle.fetch_base.specs.declared.id.ObjectId.{ObjectId}
+use Rattle.fetch_base.proofs.LineLaws.{splits}
 use Rattle.fetch_refs.specs.Packed.{packed_line}
 use Rattle.fetch_refs.specs.Reading.{IsEntry}
 use Rattle.fetch_refs.proofs.FullTexts.{feedless_name}

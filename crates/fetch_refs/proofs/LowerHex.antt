@@ -9,11 +9,11 @@ use Rattle.std.proofs.lemmas.Bool.{and_parts, cases_eq, eqb-true}
 use Rattle.hex.specs.Hex.{lower_digits, encode_with, encode_lower, hex_digit_value, digit_or_error, value_at, pair_value, decode_pairs, decode_sized, ◌>>=◌}
 use Rattle.hex.specs.declared.error.FromHexError.{FromHexError}
 use Rattle.hex.proofs.HexLemmas.{decode_of-even, decode_sized-ok, decode_sized-twice}
-use Rattle.fetch_store.specs.Id.{byte_len, bytes_of, id_of_bytes, id_in_hex}
-use Rattle.fetch_store.specs.Lines.{IsWithout}
-use Rattle.fetch_store.specs.declared.id.Kind.{Kind}
-use Rattle.fetch_store.specs.declared.id.Kind.TheVariants as kinds
-use Rattle.fetch_store.specs.declared.id.ObjectId.{ObjectId}
+use Rattle.fetch_base.specs.Id.{byte_len, bytes_of, id_of_bytes, id_in_hex}
+use Rattle.fetch_base.specs.Lines.{IsWithout}
+use Rattle.fetch_base.specs.declared.id.Kind.{Kind}
+use Rattle.fetch_base.specs.declared.id.Kind.TheVariants as kinds
+use Rattle.fetch_base.specs.declared.id.ObjectId.{ObjectId}
 
 -- what passes for each digit, and for 0, passes wherever the digits are asked
 at : (p : ℕ → Bool) (t : List ℕ) (k : ℕ) → list_all p t ≡ true → p 0 ≡ true → p (slice_index t k) ≡ true

@@ -10,9 +10,9 @@ use Rattle.std.proofs.lemmas.List.{flat_map_more}
 use Rattle.std.specs.Ordering.{is_lt}
 use Rattle.std.specs.Result.{IsErrAnd}
 use Rattle.fetch_store.proofs.Probes.{lesser}
-use Rattle.fetch_store.specs.declared.id.Kind.{Kind}
-use Rattle.fetch_store.specs.declared.id.ObjectId.{ObjectId}
-use Rattle.fetch_store.specs.Lines.{IsWithout}
+use Rattle.fetch_base.specs.declared.id.Kind.{Kind}
+use Rattle.fetch_base.specs.declared.id.ObjectId.{ObjectId}
+use Rattle.fetch_base.specs.Lines.{IsWithout}
 use Rattle.fetch_specs.specs.Names.{is_full_name}
 use Rattle.fetch_refs.specs.declared.error.PackedError.{PackedError}
 use Rattle.fetch_refs.specs.declared.slot.Slot.{Slot}

@@ -10,8 +10,8 @@ use Rattle.std.specs.BTreeMap.{is_at}
 use Rattle.std.specs.Option.{option_map, option_and_then}
 use Rattle.fetch_refs.proofs.Maps.{find-lookup}
 use Rattle.fetch_refs.proofs.Names.{name_cmp_total, name_cmp_exact}
-use Rattle.fetch_store.specs.Stores.{id_cmp}
-use Rattle.fetch_store.specs.declared.id.ObjectId.{ObjectId}
+use Rattle.fetch_base.specs.Id.{id_cmp}
+use Rattle.fetch_base.specs.declared.id.ObjectId.{ObjectId}
 use Rattle.fetch_refs.specs.declared.slot.Listed.{Listed}
 use Rattle.fetch_refs.specs.declared.slot.Slot.{Slot}
 use Rattle.fetch_refs.specs.declared.target.Target.{Target}
@@ -23,7 +23,7 @@ use Rattle.fetch_refs.specs.Names.{PackedList, RefsValue, name_cmp}
 use Rattle.fetch_refs.specs.Packed.{packed_line, packed_text, direct_id, all_direct}
 use Rattle.fetch_refs.specs.Packing.{line_if, same_option, keeps_packed}
 use Rattle.fetch_refs.specs.Slots.{with_slot, over, each}
-use Rattle.fetch_store.proofs.Ids.{id_cmp_exact}
+use Rattle.fetch_base.proofs.Ids.{id_cmp_exact}
 use Rattle.fetch_refs.proofs.Overlays.{same_slot, get-each}
 use Rattle.fetch_refs.proofs.Standing.{entries-each, entries-none}
 

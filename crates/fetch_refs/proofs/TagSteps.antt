@@ -4,7 +4,7 @@ use Rattle.std.specs.Prelude.{is_some}
 use Rattle.std.specs.FinMap as finmap
 use Rattle.std.specs.Option.{option_map, option_and_then}
 use Rattle.fetch_store.specs.Graph.{Graph, Node}
-use Rattle.fetch_store.specs.declared.id.ObjectId.{ObjectId}
+use Rattle.fetch_base.specs.declared.id.ObjectId.{ObjectId}
 use Rattle.fetch_refs.specs.declared.error.RefError.TheVariants as errors
 use Rattle.fetch_refs.specs.Leading.{Leads, next_tag}
 use Rattle.fetch_refs.specs.Peeled.{stopped, through}

@@ -11,16 +11,16 @@ use Rattle.std.specs.Result.{IsErrAnd}
 use Rattle.std.specs.declared.cmp.Ordering.{Ordering}
 use Rattle.std.proofs.lemmas.List.Folds.{list_any-append}
 use Rattle.fetch_store.specs.Graph.{Graph, Node}
-use Rattle.fetch_store.specs.Stores.{id_cmp}
-use Rattle.fetch_store.specs.contracts.id.ObjectIdOrd.TheImpl as order
-use Rattle.fetch_store.specs.declared.id.ObjectId.{ObjectId}
-use Rattle.fetch_store.proofs.Ids.{id_cmp_total}
-use Rattle.fetch_store.proofs.Orders.{cmp_is}
+use Rattle.fetch_base.specs.Id.{id_cmp}
+use Rattle.fetch_base.specs.contracts.id.ObjectIdOrd.TheImpl as order
+use Rattle.fetch_base.specs.declared.id.ObjectId.{ObjectId}
+use Rattle.fetch_base.proofs.Ids.{id_cmp_total}
+use Rattle.fetch_base.proofs.Orders.{cmp_is}
 use Rattle.fetch_refs.specs.declared.error.RefError.{RefError}
 use Rattle.fetch_refs.specs.declared.error.RefError.TheVariants as errors
 use Rattle.fetch_refs.specs.declared.target.Target.{Target}
 use Rattle.fetch_refs.specs.declared.target.Target.TheVariants.{Symbolic}
-use Rattle.fetch_store.specs.Answers.{AnswersUnless}
+use Rattle.fetch_base.specs.Answers.{AnswersUnless}
 use Rattle.fetch_refs.specs.Answers.{is_memory}
 use Rattle.fetch_refs.specs.Names.{Names}
 use Rattle.fetch_refs.specs.Peeled.{is_met, is_met_id, read, open_tag, follow, through, and_then, peeled, has_name}

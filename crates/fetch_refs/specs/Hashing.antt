@@ -2,7 +2,7 @@
 use Rattle.std.specs.Prelude.{ℕ, Bool, true, false, ◌&&◌, List, [], ◌∷◌, Option, Some, None}
 use Rattle.std.specs.List.{list_all}
 use Rattle.std.specs.FinMap as map
-use Rattle.fetch_store.specs.declared.id.Kind.{Kind}
+use Rattle.fetch_base.specs.declared.id.Kind.{Kind}
 use Rattle.fetch_refs.specs.declared.target.Target.{Target}
 use Rattle.fetch_refs.specs.declared.target.Target.TheVariants.{Object, Symbolic}
 use Rattle.fetch_refs.specs.Names.{RefsValue}

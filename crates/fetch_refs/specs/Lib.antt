@@ -16,7 +16,7 @@ pub mod Journals
 pub mod Pending
 pub mod Answers
 pub mod Peeled
-pub use Rattle.fetch_store.specs.Id
+pub use Rattle.fetch_base.specs.Id
 pub use Rattle.fetch_store.specs.Stores
 pub use Rattle.fetch_store.specs.Graph
 pub mod Iter

@@ -4,9 +4,9 @@ use Rattle.std.specs.Prelude.{codes, nat_eq, replicate}
 use Rattle.std.specs.FinMap as map
 use Rattle.std.specs.List.{starts_with}
 use Rattle.std.specs.Str.{bytes_eq}
-use Rattle.fetch_store.specs.Id.{byte_len, id_of_bytes}
-use Rattle.fetch_store.specs.declared.id.Kind.{Kind}
-use Rattle.fetch_store.specs.declared.id.ObjectId.{ObjectId}
+use Rattle.fetch_base.specs.Id.{byte_len, id_of_bytes}
+use Rattle.fetch_base.specs.declared.id.Kind.{Kind}
+use Rattle.fetch_base.specs.declared.id.ObjectId.{ObjectId}
 use Rattle.fetch_refs.specs.declared.apply.Logger.{Logger}
 use Rattle.fetch_refs.specs.declared.edit.Change.{Change}
 use Rattle.fetch_refs.specs.declared.edit.Change.TheVariants.{Update, Delete}

@@ -2,7 +2,7 @@
 use Rattle.std.specs.Prelude.{Bool, false}
 use Rattle.std.specs.Ordering.{eq_by_cmp}
 use Rattle.std.specs.Str.{bytes_eq}
-use Rattle.fetch_store.specs.Stores.{id_cmp}
+use Rattle.fetch_base.specs.Id.{id_cmp}
 use Rattle.fetch_refs.specs.declared.target.Target.{Target}
 use Rattle.fetch_refs.specs.declared.target.Target.TheVariants.{Object, Symbolic}
 use Rattle.fetch_refs.specs.declared.target.TargetRef.{TargetRef}

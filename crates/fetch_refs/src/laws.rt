@@ -4,8 +4,8 @@ ghost use Rattle.std.specs.Prelude.{◌≡◌, ◌↔◌, ℕ, Bool, true, false
 ghost use Rattle.std.specs.FinMap as map;
 ghost use Rattle.std.specs.List.{list_any};
 ghost use Rattle.fetch_store.specs.Graph.{Graph};
-ghost use Rattle.fetch_store.specs.declared.id.Kind.{Kind};
-ghost use Rattle.fetch_store.specs.declared.id.ObjectId.{ObjectId};
+ghost use Rattle.fetch_base.specs.declared.id.Kind.{Kind};
+ghost use Rattle.fetch_base.specs.declared.id.ObjectId.{ObjectId};
 ghost use Rattle.fetch_refs.specs.Edits.{refs_after};
 ghost use Rattle.fetch_refs.specs.Gained.{deletes, gained};
 ghost use Rattle.fetch_refs.specs.Laws.{last_that, writes, left_by, IsAlike};

@@ -90,7 +90,7 @@ fn keeps(contents: &Contents, change: &Undo) -> bool
     }
 }
 
-#[tactic(auto, using(fetch_store::proofs::Orders::eq_is))]
+#[tactic(auto, using(fetch_base::proofs::Orders::eq_is))]
 fn is_same(id: Option<ObjectId>, other: Option<ObjectId>) -> bool
     ensures { result ≡ same_option id other }
 {

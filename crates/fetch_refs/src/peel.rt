@@ -2,8 +2,8 @@
 
 ghost use Rattle.std.specs.Prelude.{◌≡◌, ℕ, List, [], ◌∷◌, length, Err, IfSome, IsTrue};
 ghost use Rattle.std.specs.FinMap as finmap;
-ghost use Rattle.fetch_store.specs.Answers.{AnswersUnless};
-ghost use Rattle.fetch_store.specs.declared.id.ObjectId.{ObjectId};
+ghost use Rattle.fetch_base.specs.Answers.{AnswersUnless};
+ghost use Rattle.fetch_base.specs.declared.id.ObjectId.{ObjectId};
 ghost use Rattle.fetch_refs.specs.Answers.{is_memory};
 ghost use Rattle.fetch_refs.specs.declared.error.RefError.TheVariants as errors;
 ghost use Rattle.fetch_refs.specs.Leading.{Leads, next_name, next_tag};

@@ -4,7 +4,7 @@ ghost use Rattle.std.specs.Prelude.{◌≡◌, [], IfSome};
 ghost use Rattle.std.specs.BTreeMap as tree;
 ghost use Rattle.std.specs.FinMap as finmap;
 ghost use Rattle.fetch_store.specs.Graph.{Graph};
-ghost use Rattle.fetch_store.specs.Stores.{id_cmp};
+ghost use Rattle.fetch_base.specs.Id.{id_cmp};
 ghost use Rattle.fetch_refs.specs.Peeled.{through};
 ghost use Rattle.fetch_refs.specs.TagEnds.{AreEnds, EndsAt};
 
@@ -25,7 +25,7 @@ pub struct TagEnds {
 
 impl Model for TagEnds {
     ghost use Rattle.std.specs.Prelude.{List};
-    ghost use Rattle.fetch_store.specs.declared.id.ObjectId.{ObjectId};
+    ghost use Rattle.fetch_base.specs.declared.id.ObjectId.{ObjectId};
 
     ghost Value = { List (ObjectId × ObjectId) };
 

@@ -72,7 +72,7 @@ impl TargetRef<'_> {
     }
 
     /// Whether it is that target.
-    #[tactic(auto, using(fetch_store::proofs::Orders::eq_is))]
+    #[tactic(auto, using(fetch_base::proofs::Orders::eq_is))]
     pub(crate) fn is_same(&self, other: &Target) -> bool
         ensures { result ≡ spec.is_same (seen self.now) other.now }
     {

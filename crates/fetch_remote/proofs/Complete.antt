@@ -2,7 +2,7 @@
 use Rattle.std.proofs.Common.{◌≡◌, ℕ, Bool, true, false, List, [], ◌∷◌, ◌++◌, Option, Some, None, Result, Ok, Err, refl, sym, ap, subst, ◌∙◌, inl, inr, Contains}
 use Rattle.std.specs.Prelude.{◌⊎◌, IfSome}
 use Rattle.std.proofs.lemmas.List.{append-nil, append_cancel_left}
-use Rattle.fetch_store.specs.declared.id.ObjectId.{ObjectId}
+use Rattle.fetch_base.specs.declared.id.ObjectId.{ObjectId}
 use Rattle.fetch_update.specs.Outcomes.{outcome_of}
 use Rattle.fetch_update.specs.Policy.{Policy}
 use Rattle.fetch_update.specs.declared.update.Error.{Error as UpdateError}
@@ -26,7 +26,7 @@ use Rattle.fetch_remote.specs.Stages.{Told, bound_of, wants_in, conversation}
 use Rattle.fetch_remote.specs.Valid.{IsTakeable, AreJudgeable, policy_with, IsValidInput, HasValidInput}
 use Rattle.fetch_remote.specs.declared.fetching.fetch_error.FetchError.{FetchError}
 use Rattle.fetch_remote.specs.declared.fetching.outcome.Outcome.{Outcome}
-use Rattle.fetch_store.specs.Trees.{Tree}
+use Rattle.fetch_files.specs.Trees.{Tree}
 use Rattle.fetch_remote.proofs.Fetched.{fetched_is, in_form, applied_from}
 use Rattle.fetch_remote.proofs.Judged.{judged_yes}
 use Rattle.fetch_remote.proofs.Wanted.{first_in, later_in}

@@ -3,7 +3,7 @@ use Rattle.std.proofs.Common.{◌≡◌, ℕ, Bool, true, false, List, [], ◌++
 use Rattle.std.proofs.lemmas.List.{append-nil}
 use Rattle.fetch_store.specs.Closed.{IsClosed}
 use Rattle.fetch_store.specs.Graph.{graph_of}
-use Rattle.fetch_store.specs.declared.id.ObjectId.{ObjectId}
+use Rattle.fetch_base.specs.declared.id.ObjectId.{ObjectId}
 use Rattle.fetch_refs.specs.declared.edit.PackedRefs.{PackedRefs}
 use Rattle.fetch_refs.specs.declared.edit.RefEdit.{RefEdit}
 use Rattle.fetch_wire.specs.declared.listings.mapping.RefMap.{RefMap}
@@ -17,7 +17,7 @@ use Rattle.fetch_conversation.specs.ListStage.{ListedValue}
 use Rattle.fetch_conversation.specs.declared.conversing.Received.{Received}
 use Rattle.fetch_remote.specs.declared.fetching.fetch_error.FetchError.{FetchError}
 use Rattle.fetch_remote.specs.declared.fetching.outcome.Outcome.{Outcome}
-use Rattle.fetch_store.specs.Trees.{Tree}
+use Rattle.fetch_files.specs.Trees.{Tree}
 use Rattle.fetch_remote.specs.Fetched.{HasHeard, HasRead, IsJudged, IsWritten, IsLeft, IsKept, IsSafe, IsCarriedOut, IsFetched, policy_at}
 use Rattle.fetch_remote.specs.Fetching.{apply_options_in, taken_in, applied_in, applied_by, fetched_in, requests_in}
 use Rattle.fetch_remote.specs.Form.{Given}

@@ -4,7 +4,7 @@ use Rattle.std.specs.FinMap as map
 use Rattle.std.specs.FinMap.{empty_of_len}
 use Rattle.fetch_store.specs.Borders.{IdSet}
 use Rattle.fetch_store.specs.Stores.{ObjectMap}
-use Rattle.fetch_store.specs.declared.id.Kind.{Kind}
+use Rattle.fetch_base.specs.declared.id.Kind.{Kind}
 use Rattle.fetch_refs.specs.Hashing.{of_hash as refs_of_hash}
 use Rattle.fetch_refs.specs.Names.{RefsValue}
 use Rattle.fetch_remote.specs.Hashing.{of_hash}

@@ -6,13 +6,13 @@ use Rattle.std.specs.FinMap as map
 use Rattle.std.specs.FinMap.{get-insert}
 use Rattle.std.specs.Ordering.{is_eq}
 use Rattle.std.specs.Cmp.{tied_itself}
-use Rattle.fetch_store.specs.declared.id.ObjectId.{ObjectId}
-use Rattle.fetch_store.specs.FileCalls.{IsRefused}
-use Rattle.fetch_store.specs.Paths.{Path, parts_of, parents_of}
-use Rattle.fetch_store.specs.Trees.{Tree, node_at, is_file, is_directory, is_blocked, with_each, written, without_file}
-use Rattle.fetch_store.specs.declared.node.TreeNode.{TreeNode}
-use Rattle.fetch_store.specs.declared.node.TreeNode.TheVariants.{File}
-use Rattle.fetch_store.proofs.TreeChanges.{path_cmp_total}
+use Rattle.fetch_base.specs.declared.id.ObjectId.{ObjectId}
+use Rattle.fetch_files.specs.FileCalls.{IsRefused}
+use Rattle.fetch_files.specs.Paths.{Path, parts_of, parents_of}
+use Rattle.fetch_files.specs.Trees.{Tree, node_at, is_file, is_directory, is_blocked, with_each, written, without_file}
+use Rattle.fetch_files.specs.declared.node.TreeNode.{TreeNode}
+use Rattle.fetch_files.specs.declared.node.TreeNode.TheVariants.{File}
+use Rattle.fetch_files.proofs.TreeChanges.{path_cmp_total}
 use Rattle.fetch_update.specs.declared.update.Outcome.{Outcome as Updates}
 use Rattle.fetch_conversation.specs.declared.conversing.Received.{Received}
 use Rattle.fetch_remote.specs.Keeping.{AreFiles, stays, kept, made, keep_in, made_in, removed_in, with_keep, without_keep, left_tree}

@@ -3,8 +3,8 @@ use Rattle.std.proofs.Common.{◌≡◌, ℕ, ◌+◌, ◌-◌, ◌^◌, Bool, t
 use Rattle.std.specs.Prelude.{◌==◌, if◌then◌else◌, min, max}
 use Rattle.std.specs.List.{filter}
 use Rattle.std.proofs.lemmas.List.Elements.{filter-append}
-use Rattle.fetch_store.specs.Calls.{faults_of, one_more}
-use Rattle.fetch_store.specs.Faults.{counted}
+use Rattle.fetch_base.specs.Calls.{faults_of, one_more}
+use Rattle.fetch_base.specs.Faults.{counted}
 use Rattle.fetch_wire.specs.Scripts.{Script}
 use Rattle.fetch_remote.specs.Connecting.{is_fresh, lost_in, with_lost}
 

@@ -5,8 +5,8 @@ use Rattle.std.specs.List.{AllByRecursion, filter_map, cons_option, range_with_l
 use Rattle.std.specs.Option.{option_map}
 use Rattle.std.proofs.lemmas.Bool.{ltb-true, ltb-false}
 use Rattle.std.proofs.lemmas.Option.{slice_get-get_or, slice_get-map, slice_get_within}
-use Rattle.fetch_store.specs.declared.id.Kind.{Kind}
-use Rattle.fetch_store.specs.declared.id.ObjectId.{ObjectId}
+use Rattle.fetch_base.specs.declared.id.Kind.{Kind}
+use Rattle.fetch_base.specs.declared.id.ObjectId.{ObjectId}
 use Rattle.fetch_specs.specs.Made.{IsMapping, mapping_at}
 use Rattle.fetch_specs.specs.Matches.{id_mapping, id_match, is_excluded, mapping_unless, mappings_of, name_match, source_id, source_taken}
 use Rattle.fetch_specs.specs.Specs.{Spec}

@@ -22,7 +22,7 @@ use Rattle.fetch_remote.specs.Form.{Given}
 use Rattle.fetch_remote.specs.Keeping.{AreFiles, with_keep}
 use Rattle.fetch_remote.specs.Refused.{RefusesWith, IsRefusedBy, HasEnded, IsFound, IsMaking, IsMade, IsTaken, IsStanding, unjudged, unmade, unremoved, is_late, IsCutListing, IsCutReceiving, IsCounted, IsRefused}
 use Rattle.fetch_remote.specs.Repositories.{State}
-use Rattle.fetch_store.specs.Trees.{Tree}
+use Rattle.fetch_files.specs.Trees.{Tree}
 use Rattle.fetch_remote.specs.Applying.{kept_or, standing, is_free_applying, IsLeftBy, IsUnapplied}
 use Rattle.fetch_remote.specs.Applying as applying
 use Rattle.fetch_remote.specs.Stages.{Told, bound_of, wants_in, listing_stage, conversation}

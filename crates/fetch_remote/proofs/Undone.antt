@@ -4,8 +4,8 @@ use Rattle.std.specs.Prelude.{◌⊎◌}
 use Rattle.fetch_config.specs.Contents.{Contents}
 use Rattle.fetch_config.specs.Print.{text_of}
 use Rattle.fetch_lookup.specs.Removed.{has_branches, without_branches}
-use Rattle.fetch_store.specs.Paths.{parts_of}
-use Rattle.fetch_store.specs.Trees.{Tree, written}
+use Rattle.fetch_files.specs.Paths.{parts_of}
+use Rattle.fetch_files.specs.Trees.{Tree, written}
 use Rattle.fetch_remote.specs.Deleting.{IsBeside, HasSections, Leaves, file_without, lock_path, short_names, state_without}
 use Rattle.fetch_remote.specs.DeletionSteps.{IsRead, LeavesTree}
 use Rattle.fetch_remote.specs.Keeping.{AreFiles}

@@ -7,8 +7,8 @@ use Rattle.fetch_store.specs.Graph.{Graph, graph_of}
 use Rattle.fetch_pack.specs.Reading.{Contents}
 use Rattle.fetch_pack.specs.declared.error.PackError.{PackError}
 use Rattle.fetch_pack.specs.declared.error.PackError.TheVariants as pack
-use Rattle.fetch_store.specs.declared.id.Kind.{Kind}
-use Rattle.fetch_store.specs.declared.id.Kind.TheVariants.{Sha1, Sha256}
+use Rattle.fetch_base.specs.declared.id.Kind.{Kind}
+use Rattle.fetch_base.specs.declared.id.Kind.TheVariants.{Sha1, Sha256}
 use Rattle.fetch_negotiate.specs.Requests.{fetch_request}
 use Rattle.fetch_negotiate.specs.declared.algorithm.Algorithm.{Algorithm}
 use Rattle.fetch_conversation.specs.ReadSettings.{rejects_shallow_of, algorithm_of_config, threads_of}
@@ -18,7 +18,7 @@ use Rattle.fetch_wire.specs.RequestWords.{plain_pack, plain_pack_2}
 use Rattle.fetch_wire.specs.declared.replies.reply.ReplyKind.{ReplyKind}
 use Rattle.fetch_wire.specs.declared.replies.reply.ReplyKind.TheVariants as awaits
 use Rattle.fetch_wire.specs.declared.lines.line.Line.{Line}
-use Rattle.fetch_store.specs.declared.id.ObjectId.{ObjectId}
+use Rattle.fetch_base.specs.declared.id.ObjectId.{ObjectId}
 use Rattle.fetch_wire.specs.Awaited.{told_at}
 use Rattle.fetch_wire.specs.Talks.{Talk}
 use Rattle.fetch_wire.specs.Written.{first_too_long}

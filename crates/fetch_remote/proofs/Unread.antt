@@ -1,7 +1,7 @@
 -- A reply whose pack isn't read tells the same as the whole one, the pack aside.
 use Rattle.std.proofs.Common.{◌≡◌, ◌⊎◌, inl, inr, ℕ, zero, suc, ◌+◌, Bool, true, false, List, [], ◌∷◌, ◌++◌, length, Option, Some, None, Result, Ok, Err, refl, sym, ap, ◌∙◌, subst}
 use Rattle.std.specs.Prelude.{⊤, if◌then◌else◌, ◌==◌}
-use Rattle.fetch_store.specs.declared.id.ObjectId.{ObjectId}
+use Rattle.fetch_base.specs.declared.id.ObjectId.{ObjectId}
 use Rattle.fetch_wire.specs.declared.replies.reply.ReplyContext.{ReplyContext}
 use Rattle.fetch_wire.specs.declared.replies.reply.ReplyKind.TheVariants as awaits
 use Rattle.fetch_wire.specs.declared.replies.reply.ReplyError.{ReplyError}

@@ -1,8 +1,8 @@
 -- Who is blamed for a refusal of a fetch: files or work trees that are lent, and only where their own count rose.
 use Rattle.std.specs.Prelude.{◌≡◌, ℕ, Bool, true, false, List, Option, Some, None, is_some, Result, Ok, Err, IfOk, IfErr}
-use Rattle.fetch_store.specs.Faults.{Faults, Rose, Counts}
-use Rattle.fetch_store.specs.FileCalls.{IsRefused as IsBlocked}
-use Rattle.fetch_store.specs.Trees.{Tree}
+use Rattle.fetch_base.specs.Faults.{Faults, Rose, Counts}
+use Rattle.fetch_files.specs.FileCalls.{IsRefused as IsBlocked}
+use Rattle.fetch_files.specs.Trees.{Tree}
 use Rattle.fetch_update.specs.declared.update.Error.{Error as UpdateError}
 use Rattle.fetch_update.specs.declared.update.Error.TheVariants as update
 use Rattle.fetch_update.specs.declared.worktrees.Worktree.{Worktree}

@@ -4,8 +4,9 @@ use Rattle.std.specs.Coded.{Coded, code_by, coded_ℕ, coded_bool, coded_list, c
 use Rattle.std.specs.FinMap as map
 use Rattle.fetch_store.specs.Borders.{IdSet, coded_ids}
 use Rattle.fetch_store.specs.Codes.{coded_kind, coded_id, coded_stored}
-use Rattle.fetch_store.specs.Stores.{ObjectMap, id_cmp}
-use Rattle.fetch_store.specs.declared.id.Kind.{Kind}
+use Rattle.fetch_store.specs.Stores.{ObjectMap}
+use Rattle.fetch_base.specs.Id.{id_cmp}
+use Rattle.fetch_base.specs.declared.id.Kind.{Kind}
 use Rattle.fetch_config.specs.Contents.{Contents}
 use Rattle.fetch_config.specs.declared.meta.Meta.{Meta}
 use Rattle.fetch_config.specs.declared.meta.Origin.{Origin}

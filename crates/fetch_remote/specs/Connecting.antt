@@ -2,8 +2,8 @@
 use Rattle.std.specs.Prelude.{◌≡◌, ℕ, ◌+◌, ◌-◌, ◌^◌, ◌==◌, min, max, Bool, true, false, not, length, filter, if◌then◌else◌}
 use Rattle.std.specs.Prelude.{List, [], ◌∷◌, ◌++◌, ⊤, Option}
 use Rattle.std.specs.Prelude.{Some, None, Result, Ok, Err}
-use Rattle.fetch_store.specs.Calls.{CallList, one_more}
-use Rattle.fetch_store.specs.Faults.{Faults, counted}
+use Rattle.fetch_base.specs.Calls.{CallList, one_more}
+use Rattle.fetch_base.specs.Faults.{Faults, counted}
 use Rattle.fetch_wire.specs.Scripts.{Script}
 use Rattle.fetch_wire.specs.declared.session.peer.SendFault.{SendFault}
 use Rattle.fetch_wire.specs.declared.session.peer.SendFault.TheVariants as sending

@@ -4,9 +4,9 @@ use Rattle.std.specs.Prelude.{codes}
 use Rattle.std.specs.FinMap as finmap
 use Rattle.std.specs.List.{starts_with}
 use Rattle.std.specs.Option.{option_and_then}
-use Rattle.fetch_store.specs.FileCalls.{IsRefused as IsCallRefused}
-use Rattle.fetch_store.specs.Paths.{parts_of}
-use Rattle.fetch_store.specs.Trees.{Tree, read_in, written, renamed}
+use Rattle.fetch_files.specs.FileCalls.{IsRefused as IsCallRefused}
+use Rattle.fetch_files.specs.Paths.{parts_of}
+use Rattle.fetch_files.specs.Trees.{Tree, read_in, written, renamed}
 use Rattle.fetch_specs.specs.Categories.{heads, shortened}
 use Rattle.fetch_config.specs.Contents.{Contents}
 use Rattle.fetch_config.specs.Lines.{broken_line, sections_of}

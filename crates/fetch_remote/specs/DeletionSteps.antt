@@ -2,10 +2,10 @@
 use Rattle.std.specs.Prelude.{◌≡◌, ◌⊎◌, ℕ, Bool, true, false, List, [], ◌∷◌, find, Option, Some, None, ⊤, if◌then◌else◌}
 use Rattle.std.specs.BTreeSet.{BTreeSet, contains}
 use Rattle.std.specs.Str.{bytes_eq}
-use Rattle.fetch_store.specs.Paths.{parts_of}
-use Rattle.fetch_store.specs.Trees.{Tree, written}
-use Rattle.fetch_store.specs.declared.file_error.FileError.{FileError}
-use Rattle.fetch_store.specs.declared.file_error.FileError.TheVariants as calls
+use Rattle.fetch_files.specs.Paths.{parts_of}
+use Rattle.fetch_files.specs.Trees.{Tree, written}
+use Rattle.fetch_files.specs.declared.file_error.FileError.{FileError}
+use Rattle.fetch_files.specs.declared.file_error.FileError.TheVariants as calls
 use Rattle.fetch_config.specs.Contents.{Contents}
 use Rattle.fetch_config.specs.Print.{text_of}
 use Rattle.fetch_lookup.specs.Removed.{has_branches, without_branches}

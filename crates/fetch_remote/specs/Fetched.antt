@@ -2,12 +2,12 @@
 use Rattle.std.specs.Option.{option_and_then}
 use Rattle.std.specs.List.{range_with_len}
 use Rattle.std.specs.Prelude.{◌≡◌, ℕ, Bool, true, false, ◌&&◌, List, [], ◌++◌, map, Option, Some, None, Ok, Contains, length}
-use Rattle.fetch_store.specs.declared.id.ObjectId.{ObjectId}
+use Rattle.fetch_base.specs.declared.id.ObjectId.{ObjectId}
 use Rattle.fetch_store.specs.Borders.{IdSet, merged}
 use Rattle.fetch_store.specs.Closed.{IsClosed, IsStored}
 use Rattle.fetch_store.specs.Honest.{Request}
 use Rattle.fetch_store.specs.Stores.{ObjectMap, add_all}
-use Rattle.fetch_store.specs.Trees.{Tree}
+use Rattle.fetch_files.specs.Trees.{Tree}
 use Rattle.fetch_refs.specs.Edits.{refs_after}
 use Rattle.fetch_refs.specs.Logs.{logs_after}
 use Rattle.fetch_refs.specs.Packed.{packed_after}

@@ -2,7 +2,7 @@
 use Rattle.std.specs.Prelude.{◌≡◌, true}
 use Rattle.std.specs.FinMap as map
 use Rattle.std.specs.FinSet as set
-use Rattle.fetch_store.specs.declared.id.Kind.{Kind}
+use Rattle.fetch_base.specs.declared.id.Kind.{Kind}
 use Rattle.fetch_refs.specs.Hashing.{has_no_ids, of_hash as refs_of_hash}
 use Rattle.fetch_remote.specs.RepositoryValues.{State, Setup}
 

@@ -1,7 +1,7 @@
 -- What becomes of the mapped references.
 use Rattle.std.specs.Prelude.{◌≡◌, ◌⊎◌, ℕ, Bool, true, false, List, Option, Result, Ok, Err, IfSome}
-use Rattle.fetch_store.specs.Answers.{AnswersUnless}
-use Rattle.fetch_store.specs.Calls.{one_more}
+use Rattle.fetch_base.specs.Answers.{AnswersUnless}
+use Rattle.fetch_base.specs.Calls.{one_more}
 use Rattle.fetch_update.specs.Outcomes.{outcome_of}
 use Rattle.fetch_update.specs.Policy.{Policy}
 use Rattle.fetch_update.specs.declared.update.Error.{Error as UpdateError}

@@ -4,7 +4,7 @@ use Rattle.std.specs.List.{All, IsDistinct, flat_map, starts_with}
 use Rattle.std.specs.Ordering.{eq_by_cmp}
 use Rattle.fetch_store.specs.Borders.{IdSet, ids_of}
 use Rattle.fetch_store.specs.Graph.{graph_of}
-use Rattle.fetch_store.specs.Stores.{id_cmp}
+use Rattle.fetch_base.specs.Id.{id_cmp}
 use Rattle.fetch_negotiate.specs.Commits.{IsStoredCommit}
 use Rattle.fetch_negotiate.specs.Rounds.{haves_in}
 use Rattle.fetch_negotiate.specs.declared.algorithm.Round.{Round}

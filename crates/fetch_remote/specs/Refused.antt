@@ -1,6 +1,6 @@
 -- A fetch that was refused.
 use Rattle.std.specs.Prelude.{◌≡◌, ◌⊎◌, ℕ, Bool, true, false, List, [], ◌++◌, Option, Some, Ok, Err}
-use Rattle.fetch_store.specs.Trees.{Tree}
+use Rattle.fetch_files.specs.Trees.{Tree}
 use Rattle.fetch_update.specs.declared.update.Error.{Error as UpdateError}
 use Rattle.fetch_update.specs.declared.worktrees.Worktree.{Worktree}
 use Rattle.fetch_wire.specs.Talks.{Talk, Talks, IsFront, IsDrained}

@@ -1,7 +1,7 @@
 -- What is sent in a fetch, in the words of the protocol: which lines, and exactly where each of them.
 use Rattle.std.specs.Prelude.{◌≡◌, ℕ, List, [], ◌∷◌, ◌++◌, length, nat_lt, Option, Some, None, is_some, Result, Ok, Err}
 use Rattle.std.specs.Option.{option_map, option_or}
-use Rattle.fetch_store.specs.declared.id.ObjectId.{ObjectId}
+use Rattle.fetch_base.specs.declared.id.ObjectId.{ObjectId}
 use Rattle.fetch_store.specs.Graph.{graph_of}
 use Rattle.fetch_negotiate.specs.Any.{begun}
 use Rattle.fetch_negotiate.specs.Requests.{fetch_request}

@@ -1,7 +1,7 @@
 -- What a repository shows to a fetch, where tips that nothing asks for are left out.
 use Rattle.std.specs.Prelude.{◌≡◌, Bool, true, false, not, ◌&&◌, List}
 use Rattle.fetch_store.specs.Graph.{graph_of}
-use Rattle.fetch_store.specs.declared.id.ObjectId.{ObjectId}
+use Rattle.fetch_base.specs.declared.id.ObjectId.{ObjectId}
 use Rattle.fetch_specs.specs.declared.tags.Tags.{Tags}
 use Rattle.fetch_negotiate.specs.Tips.{tips_of}
 use Rattle.fetch_negotiate.specs.Wants.{wants_of}

@@ -1,7 +1,7 @@
 -- The two stages of a fetch and its conversation.
 use Rattle.std.specs.Prelude.{ℕ, List, Option, Ok}
 use Rattle.fetch_store.specs.Graph.{graph_of}
-use Rattle.fetch_store.specs.declared.id.ObjectId.{ObjectId}
+use Rattle.fetch_base.specs.declared.id.ObjectId.{ObjectId}
 use Rattle.fetch_specs.specs.declared.tags.Tags.{Tags}
 use Rattle.fetch_negotiate.specs.Tips.{tips_of}
 use Rattle.fetch_negotiate.specs.Wants.{wants_of}

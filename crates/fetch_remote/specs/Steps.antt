@@ -2,9 +2,9 @@
 use Rattle.std.specs.Prelude.{◌≡◌, ◌⊎◌, ℕ, Bool, true, false, List, [], ◌++◌, Option, None, Result, Ok, Err}
 use Rattle.std.specs.Borrow.{Fml, RattleType, MutBor, Lends}
 use mir.Syntax.{named}
-use Rattle.fetch_store.specs.Faults.{Faults}
+use Rattle.fetch_base.specs.Faults.{Faults}
 use Rattle.fetch_negotiate.specs.declared.algorithm.Shallow.TheVariants.{NoChange}
-use Rattle.fetch_store.specs.Trees.{Tree}
+use Rattle.fetch_files.specs.Trees.{Tree}
 use Rattle.fetch_update.specs.declared.worktrees.Worktree.{Worktree}
 use Rattle.fetch_wire.specs.Talks.{Talk}
 use Rattle.fetch_conversation.specs.Blame.{BlamesPeer, BlamesInterrupt}

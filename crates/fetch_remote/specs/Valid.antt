@@ -2,7 +2,7 @@
 use Rattle.std.specs.Prelude.{◌≡◌, ◌⊎◌, ℕ, List, [], ◌++◌, Option, None, Ok, IfSome, Contains}
 use Rattle.fetch_store.specs.Missing.{missing}
 use Rattle.fetch_store.specs.Stores.{collision}
-use Rattle.fetch_store.specs.declared.id.ObjectId.{ObjectId}
+use Rattle.fetch_base.specs.declared.id.ObjectId.{ObjectId}
 use Rattle.fetch_update.specs.Policy.{Policy}
 use Rattle.fetch_update.specs.Refusing.{Refuses}
 use Rattle.fetch_update.specs.declared.update.Error.{Error as UpdateError}

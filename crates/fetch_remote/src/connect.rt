@@ -1,7 +1,7 @@
 //! What makes the peers that a remote is reached by.
 
 ghost use Rattle.std.specs.Prelude.{◌≡◌, ◌+◌, ◌<◌, ℕ, List, Option, IfOk, IsErrOf, slice_get};
-ghost use Rattle.fetch_store.specs.Faults.{Faults, Rose, Counts};
+ghost use Rattle.fetch_base.specs.Faults.{Faults, Rose, Counts};
 ghost use Rattle.fetch_remote.specs.Connecting.{is_of_maker, IsMissing, Makes, MakesAt, MakesAtFirst, TakesBack, out_after, with_lost};
 ghost use Rattle.fetch_remote.specs.Remotes.{urls_for};
 ghost use Rattle.fetch_remote.specs.declared.connect.Error.TheVariants as errors;

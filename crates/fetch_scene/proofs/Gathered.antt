@@ -3,7 +3,7 @@ use Rattle.std.proofs.Common.{◌≡◌, ℕ, ◌||◌, List, [], ◌∷◌, ref
 use Rattle.std.specs.Cmp.Lexicographic.{slice_cmp, texts_ties}
 use Rattle.std.specs.Ordering.{nat_cmp}
 use Rattle.std.specs.Str.{bytes_eq}
-use Rattle.fetch_store.specs.Distinct.{has_key}
+use Rattle.fetch_base.specs.Distinct.{has_key}
 use Rattle.fetch_scene.specs.declared.references.Reference.{Reference}
 use Rattle.fetch_scene.specs.SceneRefs.{has_name}
 

@@ -3,10 +3,10 @@ use Rattle.std.specs.Prelude.{ℕ, ◌==◌, false, List, [], ◌∷◌, codes, 
 use Rattle.std.specs.Option.{option_map}
 use Rattle.std.specs.Result.{result_ok}
 use Rattle.std.specs.Str.{bytes_eq}
-use Rattle.fetch_store.specs.declared.id.Kind.{Kind}
-use Rattle.fetch_store.specs.declared.id.ObjectId.{ObjectId}
-use Rattle.fetch_store.specs.Id.{id_in_hex}
-use Rattle.fetch_store.specs.Scan.{◌>>=◌, split_first}
+use Rattle.fetch_base.specs.declared.id.Kind.{Kind}
+use Rattle.fetch_base.specs.declared.id.ObjectId.{ObjectId}
+use Rattle.fetch_base.specs.Id.{id_in_hex}
+use Rattle.fetch_base.specs.Scan.{◌>>=◌, split_first}
 use Rattle.fetch_specs.specs.Names.{is_full_name, is_name}
 use Rattle.fetch_specs.specs.Parses.{parsed}
 use Rattle.fetch_specs.specs.Specs.{Spec}

@@ -12,11 +12,11 @@ use Rattle.fetch_pack.specs.Records.{Fits, body, limit_of, payloads_of}
 use Rattle.fetch_pack.specs.declared.version.PackVersion.{PackVersion}
 use Rattle.fetch_reach.proofs.Written.{is_read, they_fit}
 use Rattle.fetch_specs.specs.Names.{is_full_name}
-use Rattle.fetch_store.specs.Hashing.{digest}
+use Rattle.fetch_base.specs.Hashing.{digest}
 use Rattle.fetch_store.specs.Objects.{Stored}
-use Rattle.fetch_store.specs.declared.id.Kind.{Kind}
-use Rattle.fetch_store.specs.declared.id.Kind.TheVariants.{Sha1, Sha256}
-use Rattle.fetch_store.specs.declared.id.ObjectId.{ObjectId}
+use Rattle.fetch_base.specs.declared.id.Kind.{Kind}
+use Rattle.fetch_base.specs.declared.id.Kind.TheVariants.{Sha1, Sha256}
+use Rattle.fetch_base.specs.declared.id.ObjectId.{ObjectId}
 use Rattle.fetch_store.proofs.Borders.{named-Contains}
 use Rattle.fetch_store.proofs.Honesty.{commit_at}
 use Rattle.fetch_wire.specs.Bands as bands

@@ -12,7 +12,7 @@ use Rattle.fetch_serve.specs.declared.error.ServeError.TheVariants as errors
 use Rattle.fetch_serve.specs.Intakes.{Incoming, StopsAt, cut_to, fed, is_memory, passed}
 use Rattle.fetch_serve.specs.Replies.{replies_to, reply_text}
 use Rattle.fetch_serve.specs.Served.{Data}
-use Rattle.fetch_store.specs.declared.id.Kind.{Kind}
+use Rattle.fetch_base.specs.declared.id.Kind.{Kind}
 use Rattle.fetch_serve.specs.Servings.{RefusesBy, Takes, state_of}
 use Rattle.fetch_serve.specs.Texts.{AskedIn, IsBegun, asked_in, and_others, ends_at, joined, request_at, request_bound, with_first}
 use Rattle.fetch_serve.proofs.Asking.{asked_in-begun, asked_in-nothing, asked_in-one, asked_in-step, one, shorter}

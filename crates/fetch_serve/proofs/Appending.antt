@@ -9,10 +9,10 @@ use Rattle.hex.specs.Hex.{encode_lower}
 use Rattle.fetch_pack.specs.declared.version.PackVersion.{PackVersion}
 use Rattle.fetch_pack.specs.declared.version.PackVersion.TheVariants.{V1}
 use Rattle.fetch_reach.specs.Stored.{CanHold, objects_at}
-use Rattle.fetch_store.specs.Digits.{hex_of}
-use Rattle.fetch_store.specs.Id.{byte_len, bytes_of, kind_of}
+use Rattle.fetch_base.specs.Digits.{hex_of}
+use Rattle.fetch_base.specs.Id.{byte_len, bytes_of, kind_of}
 use Rattle.fetch_store.specs.Objects.{Stored}
-use Rattle.fetch_store.specs.declared.id.ObjectId.{ObjectId}
+use Rattle.fetch_base.specs.declared.id.ObjectId.{ObjectId}
 use Rattle.fetch_wire.specs.Bands.{Piece, band_line}
 use Rattle.fetch_wire.specs.Bands as bands
 use Rattle.fetch_wire.specs.ServerLines.{bands_of, change_lines, last_lines, round_lines}

@@ -1,6 +1,6 @@
 -- The requests of a text, one after another, and what more bytes do to them.
 use Rattle.std.proofs.Common.{◌≡◌, ℕ, zero, suc, ◌+◌, ◌≤◌, Bool, true, List, [], ◌∷◌, ◌++◌, length, Option, Some, None, Result, Ok, Err, refl, sym, ap, ◌∙◌, arith, length-append}
-use Rattle.fetch_store.specs.declared.id.Kind.{Kind}
+use Rattle.fetch_base.specs.declared.id.Kind.{Kind}
 use Rattle.fetch_wire.specs.declared.replies.reply.ReplyError.{ReplyError}
 use Rattle.fetch_wire.specs.declared.replies.reply.ReplyError.TheVariants.{Short, Broken, TooLong, Said}
 use Rattle.fetch_wire.specs.Lines.{line_at}

@@ -13,10 +13,11 @@ use Rattle.fetch_store.specs.Closed.{Reached}
 use Rattle.fetch_store.specs.Graph.{Graph}
 use Rattle.fetch_store.specs.Missing.{parents_at}
 use Rattle.fetch_store.specs.Objects.{Stored}
-use Rattle.fetch_store.specs.Stores.{ObjectMap, id_cmp}
-use Rattle.fetch_store.specs.declared.id.ObjectId.{ObjectId}
+use Rattle.fetch_store.specs.Stores.{ObjectMap}
+use Rattle.fetch_base.specs.Id.{id_cmp}
+use Rattle.fetch_base.specs.declared.id.ObjectId.{ObjectId}
 use Rattle.fetch_store.proofs.Borders.{alike, named-Contains, Contains-named}
-use Rattle.fetch_store.proofs.Ids.{id_cmp_total}
+use Rattle.fetch_base.proofs.Ids.{id_cmp_total}
 use Rattle.fetch_reach.specs.Stored.{objects_at}
 use Rattle.fetch_refs.specs.Leading.{next_tag}
 use Rattle.fetch_wire.specs.References.{id_in, name_in, peeled_in}

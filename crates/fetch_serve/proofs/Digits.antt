@@ -4,7 +4,7 @@ use Rattle.std.specs.Prelude.{◌&&◌, ◌==◌, not, IsTrue, SomeIff, if◌the
 use Rattle.std.specs.Str.{all_ascii_digits}
 use Rattle.std.specs.Str.Parse.{digits_value}
 use Rattle.std.proofs.lemmas.Bool.Decides.{nat_tests}
-use Rattle.fetch_store.specs.Scan.{is_decimal}
+use Rattle.fetch_base.specs.Scan.{is_decimal}
 use Rattle.fetch_serve.specs.RequestTexts.{if_below, is_number, number_in}
 
 within : (r : Option ℕ) (P : Type 0) (bound n : ℕ) → P → SomeIff r (P × (n < bound)) n → r ≡ if_below bound n

@@ -16,13 +16,13 @@ use Rattle.fetch_refs.specs.declared.target.Target.{Target}
 use Rattle.fetch_refs.specs.declared.target.Target.TheVariants.{Object, Symbolic}
 use Rattle.fetch_refs.proofs.TagWays.{tags_end}
 use Rattle.fetch_store.specs.Graph.{Graph, Node, node_of}
-use Rattle.fetch_store.specs.Id.{byte_len, bytes_of}
+use Rattle.fetch_base.specs.Id.{byte_len, bytes_of}
 use Rattle.fetch_store.specs.Objects.{Stored}
 use Rattle.fetch_store.specs.Stores.{ObjectMap}
-use Rattle.fetch_store.specs.declared.id.Kind.{Kind}
-use Rattle.fetch_store.specs.declared.id.Kind.TheVariants.{Sha1, Sha256}
-use Rattle.fetch_store.specs.declared.id.ObjectId.{ObjectId}
-use Rattle.fetch_store.proofs.Digests.{length-digest}
+use Rattle.fetch_base.specs.declared.id.Kind.{Kind}
+use Rattle.fetch_base.specs.declared.id.Kind.TheVariants.{Sha1, Sha256}
+use Rattle.fetch_base.specs.declared.id.ObjectId.{ObjectId}
+use Rattle.fetch_base.proofs.Digests.{length-digest}
 use Rattle.fetch_store.proofs.Graphs.{get-graph_of}
 use Rattle.fetch_reach.specs.Named.{AreOwnIds}
 use Rattle.fetch_specs.specs.Names.{is_full_name}

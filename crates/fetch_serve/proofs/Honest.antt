@@ -12,13 +12,14 @@ use Rattle.fetch_store.specs.Closed.{Holding, IsCommit, IsStored, IsWalk, Reache
 use Rattle.fetch_store.specs.Honest.{IsCommitThere, IsDeepened, IsHonest, IsThere, Pack, Request}
 use Rattle.fetch_store.specs.Missing.{parents_at}
 use Rattle.fetch_store.specs.Objects.{Stored}
-use Rattle.fetch_store.specs.Stores.{ObjectMap, id_cmp}
-use Rattle.fetch_store.specs.declared.id.ObjectId.{ObjectId}
+use Rattle.fetch_store.specs.Stores.{ObjectMap}
+use Rattle.fetch_base.specs.Id.{id_cmp}
+use Rattle.fetch_base.specs.declared.id.ObjectId.{ObjectId}
 use Rattle.fetch_store.proofs.Borders.{Contains-named, named-Contains}
 use Rattle.fetch_refs.proofs.TagWays.{exact}
 use Rattle.fetch_store.proofs.Finds.{ties}
 use Rattle.fetch_store.proofs.Honesty.{commit_at, reached_stored}
-use Rattle.fetch_store.proofs.Ids.{id_cmp_total}
+use Rattle.fetch_base.proofs.Ids.{id_cmp_total}
 use Rattle.fetch_store.proofs.Lists.{others_from_links, parents_from_links}
 use Rattle.fetch_store.proofs.Members.{cases_in, none_in}
 use Rattle.fetch_store.proofs.Reaching.{All-Contains, reached_closed, reached_next, reached_start}

@@ -8,13 +8,13 @@ use Rattle.hex.proofs.HexLemmas.{length-encode_with}
 use Rattle.sha1.specs.Sha1 as one
 use Rattle.sha2.specs.Sha256 as two
 use Rattle.fetch_store.specs.Closed.{IsStored}
-use Rattle.fetch_store.specs.Hashing.{digest}
-use Rattle.fetch_store.specs.Id.{byte_len, bytes_of, kind_of}
+use Rattle.fetch_base.specs.Hashing.{digest}
+use Rattle.fetch_base.specs.Id.{byte_len, bytes_of, kind_of}
 use Rattle.fetch_store.specs.Objects.{Stored}
-use Rattle.fetch_store.specs.declared.id.Kind.{Kind}
-use Rattle.fetch_store.specs.declared.id.Kind.TheVariants.{Sha1, Sha256}
-use Rattle.fetch_store.specs.declared.id.ObjectId.{ObjectId}
-use Rattle.fetch_store.proofs.Digests.{length-digest}
+use Rattle.fetch_base.specs.declared.id.Kind.{Kind}
+use Rattle.fetch_base.specs.declared.id.Kind.TheVariants.{Sha1, Sha256}
+use Rattle.fetch_base.specs.declared.id.ObjectId.{ObjectId}
+use Rattle.fetch_base.proofs.Digests.{length-digest}
 use Rattle.fetch_reach.specs.Named.{own_id}
 use Rattle.fetch_wire.specs.ServerLines.{IsIdOf}
 use Rattle.fetch_serve.specs.Servable.{IsServable}

@@ -11,14 +11,16 @@ use Rattle.fetch_store.specs.Borders.{IdSet}
 use Rattle.fetch_store.specs.Closed.{IsCommit, is_commit, parents}
 use Rattle.fetch_store.specs.Graph.{Graph, Node, graph_of, is_commit_at, node_of}
 use Rattle.fetch_store.specs.Missing.{parents_at}
-use Rattle.fetch_store.specs.Objects.{Stored, is_kind}
+use Rattle.fetch_store.specs.Objects.{Stored}
+use Rattle.fetch_base.specs.Kinds.{is_kind}
 use Rattle.fetch_store.specs.Spread.{IsWithin}
-use Rattle.fetch_store.specs.Stores.{ObjectMap, id_cmp}
-use Rattle.fetch_store.specs.declared.id.ObjectId.{ObjectId}
-use Rattle.fetch_store.specs.declared.object_kind.ObjectKind.TheVariants.{Commit}
+use Rattle.fetch_store.specs.Stores.{ObjectMap}
+use Rattle.fetch_base.specs.Id.{id_cmp}
+use Rattle.fetch_base.specs.declared.id.ObjectId.{ObjectId}
+use Rattle.fetch_base.specs.declared.object_kind.ObjectKind.TheVariants.{Commit}
 use Rattle.fetch_store.proofs.Borders.{named-Contains, Contains-named}
 use Rattle.fetch_store.proofs.Graphs.{get-graph_of}
-use Rattle.fetch_store.proofs.Ids.{id_cmp_total}
+use Rattle.fetch_base.proofs.Ids.{id_cmp_total}
 use Rattle.fetch_store.proofs.Keys.{keys-rise}
 use Rattle.fetch_store.proofs.Members.{none_in}
 use Rattle.fetch_serve.specs.declared.asked.DepthAsked.{DepthAsked}

@@ -7,8 +7,8 @@ use Rattle.std.proofs.lemmas.Grind.{flat_map-append}
 use Rattle.std.proofs.lemmas.List.{append-nil, length-take}
 use Rattle.std.proofs.lemmas.List.Elements.{All-head, All-tail}
 use Rattle.hex.specs.Hex.{encode_lower}
-use Rattle.fetch_store.specs.Id.{bytes_of}
-use Rattle.fetch_store.specs.declared.id.ObjectId.{ObjectId}
+use Rattle.fetch_base.specs.Id.{bytes_of}
+use Rattle.fetch_base.specs.declared.id.ObjectId.{ObjectId}
 use Rattle.fetch_wire.specs.Bands.{Piece, band_line, pack_lines}
 use Rattle.fetch_wire.specs.Cutting.{pieces_within}
 use Rattle.fetch_wire.specs.RequestLines.{id_lines}

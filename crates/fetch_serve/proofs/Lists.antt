@@ -4,8 +4,8 @@ use Rattle.std.specs.Prelude.{slice_get}
 use Rattle.std.specs.List.{cons_option, filter_map, flat_map}
 use Rattle.std.specs.List.Sorted.{IsStrictlySortedBy}
 use Rattle.fetch_store.specs.Borders.{ids_of}
-use Rattle.fetch_store.specs.Stores.{id_cmp}
-use Rattle.fetch_store.specs.declared.id.ObjectId.{ObjectId}
+use Rattle.fetch_base.specs.Id.{id_cmp}
+use Rattle.fetch_base.specs.declared.id.ObjectId.{ObjectId}
 use Rattle.fetch_store.proofs.Borders.{ids_of-set, same_sets}
 use Rattle.fetch_store.proofs.Members.{first_in, later_in, cases_in, none_in}
 use Rattle.fetch_serve.proofs.Reached.{keeps}

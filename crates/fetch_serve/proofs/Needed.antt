@@ -10,11 +10,12 @@ use Rattle.std.proofs.lemmas.List.Kept.{IsStrictlySortedBy-filter}
 use Rattle.fetch_store.specs.Borders.{IdSet, merged}
 use Rattle.fetch_store.specs.Closed.{IsStored, Reached}
 use Rattle.fetch_store.specs.Objects.{Stored}
-use Rattle.fetch_store.specs.Stores.{ObjectMap, id_cmp}
-use Rattle.fetch_store.specs.declared.id.ObjectId.{ObjectId}
+use Rattle.fetch_store.specs.Stores.{ObjectMap}
+use Rattle.fetch_base.specs.Id.{id_cmp}
+use Rattle.fetch_base.specs.declared.id.ObjectId.{ObjectId}
 use Rattle.fetch_store.proofs.Borders.{named-Contains, Contains-named}
 use Rattle.fetch_store.proofs.Honesty.{reached_stored}
-use Rattle.fetch_store.proofs.Ids.{id_cmp_exact, id_cmp_total}
+use Rattle.fetch_base.proofs.Ids.{id_cmp_exact, id_cmp_total}
 use Rattle.fetch_store.proofs.Keys.{keys-rise}
 use Rattle.fetch_store.proofs.Merges.{contains-merged}
 use Rattle.fetch_reach.specs.Named.{AreOwnIds, IsOwnId}

@@ -3,8 +3,8 @@ use Rattle.std.proofs.Common.{◌≡◌, ℕ, suc, ◌+◌, ◌-◌, ◌^◌, �
 use Rattle.std.specs.Prelude.{is_some}
 use Rattle.std.proofs.Math.Seq.{take-append_seam, drop-append_seam}
 use Rattle.std.proofs.lemmas.List.{append-nil, map-append, take_all}
-use Rattle.fetch_store.specs.Faults.{Counts, Counts-none, Rose}
-use Rattle.fetch_store.specs.declared.file_error.Failed.{Failed}
+use Rattle.fetch_base.specs.Faults.{Counts, Counts-none, Rose}
+use Rattle.fetch_base.specs.declared.failed.Failed.{Failed}
 use Rattle.fetch_wire.specs.Talks.{IsDrained, Makes, Passes, Receive, Receives, Sends, Talk, Talks, at_once, behind}
 use Rattle.fetch_wire.specs.declared.session.peer.SendFault.{SendFault}
 use Rattle.fetch_wire.specs.declared.session.peer.SendFault.TheVariants as sending

@@ -7,10 +7,10 @@ use Rattle.std.specs.Option.{option_map_or}
 use Rattle.std.specs.Ordering.{eq_by_cmp, is_eq}
 use Rattle.fetch_store.specs.Closed.{Holding, IsWalk, Reached, links_at, links_within}
 use Rattle.fetch_store.specs.Objects.{Stored}
-use Rattle.fetch_store.specs.Stores.{id_cmp}
-use Rattle.fetch_store.specs.declared.id.ObjectId.{ObjectId}
+use Rattle.fetch_base.specs.Id.{id_cmp}
+use Rattle.fetch_base.specs.declared.id.ObjectId.{ObjectId}
 use Rattle.fetch_store.proofs.Borders.{named-Contains, Contains-named}
-use Rattle.fetch_store.proofs.Ids.{id_cmp_exact}
+use Rattle.fetch_base.proofs.Ids.{id_cmp_exact}
 use Rattle.fetch_store.proofs.Members.{first_in, later_in, cases_in, none_in}
 use Rattle.fetch_store.proofs.Pigeons.{AreDistinct, AreStored, no_more}
 use Rattle.fetch_store.proofs.Reaching.{reached_next, reached_start}

@@ -12,7 +12,7 @@ use Rattle.fetch_refs.specs.declared.target.Target.{Target}
 use Rattle.fetch_store.specs.Closed.{IsStored}
 use Rattle.fetch_store.specs.Graph.{Graph, Node, node_of}
 use Rattle.fetch_store.specs.Objects.{Stored}
-use Rattle.fetch_store.specs.declared.id.ObjectId.{ObjectId}
+use Rattle.fetch_base.specs.declared.id.ObjectId.{ObjectId}
 use Rattle.fetch_store.proofs.Graphs.{get-graph_of}
 use Rattle.fetch_store.proofs.Lists.{map_nil}
 use Rattle.fetch_store.proofs.Members.{cases_in, none_in}

@@ -8,11 +8,12 @@ use Rattle.fetch_refs.specs.Leading.{IsTagWay, Leads, next_tag}
 use Rattle.fetch_refs.proofs.TagWays.{tags_end}
 use Rattle.fetch_store.specs.Closed.{links}
 use Rattle.fetch_store.specs.Graph.{Graph, Node, node_of}
-use Rattle.fetch_store.specs.Objects.{IsObject, Stored, is_kind, links_of}
+use Rattle.fetch_store.specs.Objects.{IsObject, Stored, links_of}
+use Rattle.fetch_base.specs.Kinds.{is_kind}
 use Rattle.fetch_store.specs.Stores.{ObjectMap}
-use Rattle.fetch_store.specs.declared.id.ObjectId.{ObjectId}
-use Rattle.fetch_store.specs.declared.object_kind.ObjectKind.{ObjectKind}
-use Rattle.fetch_store.specs.declared.object_kind.ObjectKind.TheVariants.{Commit, Tree, Blob, Tag}
+use Rattle.fetch_base.specs.declared.id.ObjectId.{ObjectId}
+use Rattle.fetch_base.specs.declared.object_kind.ObjectKind.{ObjectKind}
+use Rattle.fetch_base.specs.declared.object_kind.ObjectKind.TheVariants.{Commit, Tree, Blob, Tag}
 use Rattle.fetch_store.proofs.Graphs.{get-graph_of}
 use Rattle.fetch_store.proofs.Members.{first_in, later_in, cases_in, none_in}
 use Rattle.fetch_store.proofs.Pigeons.{AreStored, are_distinct, no_more}

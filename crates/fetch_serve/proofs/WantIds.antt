@@ -9,11 +9,11 @@ use Rattle.hex.specs.Hex.{IsBytes, decode_sized}
 use Rattle.hex.specs.declared.error.FromHexError.{FromHexError}
 use Rattle.hex.proofs.HexLemmas.{decode_of-ok, decode_sized-ok, decode_sized-twice}
 use Rattle.fetch_pack.specs.declared.version.PackVersion.TheVariants.{V1, V2}
-use Rattle.fetch_store.specs.Id.{byte_len, id_in_hex, id_of_bytes}
-use Rattle.fetch_store.specs.Scan.{after}
-use Rattle.fetch_store.specs.declared.id.Kind.{Kind}
-use Rattle.fetch_store.specs.declared.id.Kind.TheVariants.{Sha1, Sha256}
-use Rattle.fetch_store.specs.declared.id.ObjectId.{ObjectId}
+use Rattle.fetch_base.specs.Id.{byte_len, id_in_hex, id_of_bytes}
+use Rattle.fetch_base.specs.Scan.{after}
+use Rattle.fetch_base.specs.declared.id.Kind.{Kind}
+use Rattle.fetch_base.specs.declared.id.Kind.TheVariants.{Sha1, Sha256}
+use Rattle.fetch_base.specs.declared.id.ObjectId.{ObjectId}
 use Rattle.fetch_wire.specs.LinesTold.{Tells}
 use Rattle.fetch_wire.specs.RequestWords.{command_word, deepen_word, not_word, relative_word, since_word, have_word, plain_pack, plain_pack_2, shallow_word, want_word}
 use Rattle.fetch_wire.specs.Requests.{listing_word}

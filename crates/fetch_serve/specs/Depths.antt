@@ -11,7 +11,7 @@ use Rattle.fetch_store.specs.Closed.{IsCommit}
 use Rattle.fetch_store.specs.Found.{there}
 use Rattle.fetch_store.specs.Graph.{Graph, is_commit_at}
 use Rattle.fetch_store.specs.Spread.{Nexts, IsWithin, next_to}
-use Rattle.fetch_store.specs.declared.id.ObjectId.{ObjectId}
+use Rattle.fetch_base.specs.declared.id.ObjectId.{ObjectId}
 use Rattle.fetch_wire.specs.References.{name_in}
 use Rattle.fetch_wire.specs.declared.listings.reference.Ref.{Ref}
 use Rattle.fetch_serve.specs.declared.asked.DepthAsked.{DepthAsked}

@@ -12,7 +12,7 @@ use Rattle.fetch_store.specs.Honest.{Pack}
 use Rattle.fetch_store.specs.Missing.{parents_at}
 use Rattle.fetch_store.specs.Objects.{Stored}
 use Rattle.fetch_store.specs.Stores.{ObjectMap}
-use Rattle.fetch_store.specs.declared.id.ObjectId.{ObjectId}
+use Rattle.fetch_base.specs.declared.id.ObjectId.{ObjectId}
 use Rattle.fetch_refs.specs.Leading.{IsTagWay, next_tag}
 use Rattle.fetch_reach.specs.Stored.{entries_at}
 use Rattle.fetch_wire.specs.References.{id_in, name_in, peeled_in}

@@ -6,7 +6,7 @@ use Rattle.std.specs.Option.{option_and_then, option_map_or}
 use Rattle.std.specs.Str.{all_ascii_digits}
 use Rattle.std.specs.Str.Parse.{digits_value}
 use Rattle.fetch_specs.specs.Names.{is_name}
-use Rattle.fetch_store.specs.Scan.{after, split_first}
+use Rattle.fetch_base.specs.Scan.{after, split_first}
 
 -- what a conversation begins with
 unfoldable pub upload_word : List ℕ

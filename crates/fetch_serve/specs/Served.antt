@@ -3,7 +3,7 @@ use Rattle.std.specs.Prelude.{ℕ, List, filter}
 use Rattle.std.specs.FinMap as map
 use Rattle.fetch_store.specs.Graph.{Graph, graph_of}
 use Rattle.fetch_store.specs.Stores.{ObjectMap, StoreValue}
-use Rattle.fetch_store.specs.declared.id.Kind.{Kind}
+use Rattle.fetch_base.specs.declared.id.Kind.{Kind}
 use Rattle.fetch_refs.specs.Names.{Names, RefsValue}
 use Rattle.fetch_refs.specs.declared.target.Target.{Target}
 use Rattle.fetch_specs.specs.Names.{is_full_name}

@@ -4,7 +4,7 @@ ghost use Rattle.std.specs.Prelude.{◌≡◌, option_map, option_and_then, IfOk
 ghost use Rattle.fetch_serve.specs.RequestTexts as texts;
 ghost use Rattle.fetch_serve.specs.Requests as spec;
 ghost use Rattle.fetch_serve.specs.declared.fetch_reading.Detail.TheVariants as details;
-ghost use Rattle.fetch_store.specs.Scan.{after};
+ghost use Rattle.fetch_base.specs.Scan.{after};
 ghost use Rattle.fetch_wire.specs.RequestWords as words;
 
 use crate::fetch_reading::Detail;

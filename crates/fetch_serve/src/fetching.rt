@@ -9,7 +9,7 @@ ghost use Rattle.fetch_serve.specs.Packs.{stored_in};
 ghost use Rattle.fetch_serve.specs.Parts.{held_by};
 ghost use Rattle.fetch_serve.specs.Replies as spec;
 ghost use Rattle.fetch_serve.specs.Servable.{IsServable};
-ghost use Rattle.fetch_store.specs.Digits.{hex_of};
+ghost use Rattle.fetch_base.specs.Digits.{hex_of};
 ghost use Rattle.fetch_wire.specs.ServerLines.{bands_of, change_lines, round_lines};
 ghost use Rattle.fetch_wire.specs.Bands.{pack_lines};
 ghost use Rattle.fetch_wire.specs.RequestLines.{id_lines};

@@ -7,7 +7,7 @@ ghost use Rattle.fetch_serve.specs.Reads.{by_saying, step_in};
 ghost use Rattle.fetch_serve.specs.RequestTexts.{prefix_word};
 ghost use Rattle.fetch_serve.specs.Requests as spec;
 ghost use Rattle.fetch_serve.specs.declared.asked.Asked.TheVariants as asking;
-ghost use Rattle.fetch_store.specs.Scan.{after};
+ghost use Rattle.fetch_base.specs.Scan.{after};
 ghost use Rattle.fetch_wire.specs.Stepping.{breaks, ends};
 
 use crate::asked::Asked;

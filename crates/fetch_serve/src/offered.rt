@@ -14,7 +14,7 @@ ghost use Rattle.fetch_serve.specs.Parts.{held_by};
 ghost use Rattle.fetch_serve.specs.Requests.{has_id};
 ghost use Rattle.fetch_store.specs.Borders.{set_of};
 ghost use Rattle.fetch_store.specs.Graph.{graph_of};
-ghost use Rattle.fetch_store.specs.Stores.{id_cmp};
+ghost use Rattle.fetch_base.specs.Id.{id_cmp};
 
 use crate::parts::Parts;
 use fetch_refs::{RefError, TagEnds, TargetRef};

@@ -7,7 +7,7 @@ ghost use Rattle.fetch_serve.specs.Peers.{count_after, faults_of, told_by};
 ghost use Rattle.fetch_serve.specs.Replies.{replies_of};
 ghost use Rattle.fetch_serve.specs.Servings.{unfed};
 ghost use Rattle.fetch_serve.specs.declared.error.ServeError.TheVariants as errors;
-ghost use Rattle.fetch_store.specs.Faults.{Counts, Rose};
+ghost use Rattle.fetch_base.specs.Faults.{Counts, Rose};
 ghost use Rattle.fetch_wire.specs.Talks.{Makes, Receives, Sends, at_once};
 
 use crate::error::ServeError;

@@ -15,8 +15,8 @@ ghost use Rattle.fetch_serve.specs.Requests.{has_id};
 ghost use Rattle.fetch_serve.specs.Servable.{IsServable};
 ghost use Rattle.fetch_store.specs.Borders.{merged};
 ghost use Rattle.fetch_store.specs.Graph.{graph_of};
-ghost use Rattle.fetch_store.specs.Stores.{id_cmp};
-ghost use Rattle.fetch_store.specs.declared.id.ObjectId.{ObjectId as Id};
+ghost use Rattle.fetch_base.specs.Id.{id_cmp};
+ghost use Rattle.fetch_base.specs.declared.id.ObjectId.{ObjectId as Id};
 
 use crate::asked::FetchAsked;
 use crate::depth::{Depth, append_all};

@@ -4,15 +4,15 @@ use Rattle.std.proofs.lemmas.Bool.{OnFalse_at}
 use Rattle.std.specs.Prelude.{IfSome, slice_get, find}
 use Rattle.std.specs.FinMap as finmap
 use Rattle.std.specs.Option.{option_map, option_or}
-use Rattle.fetch_store.specs.Answers.{AnswersUnless}
-use Rattle.fetch_store.specs.declared.id.ObjectId.{ObjectId}
+use Rattle.fetch_base.specs.Answers.{AnswersUnless}
+use Rattle.fetch_base.specs.declared.id.ObjectId.{ObjectId}
 use Rattle.fetch_store.specs.declared.missing.Missing.{Missing}
 use Rattle.fetch_store.specs.Closed.{Holding}
 use Rattle.fetch_store.specs.Honest.{Pack}
 use Rattle.fetch_store.specs.Missing.{missing}
 use Rattle.fetch_store.specs.Stores.{AreOf, collision}
-use Rattle.fetch_store.specs.FileCalls.{IsRefused as IsBlocked}
-use Rattle.fetch_store.specs.Trees.{Tree}
+use Rattle.fetch_files.specs.FileCalls.{IsRefused as IsBlocked}
+use Rattle.fetch_files.specs.Trees.{Tree}
 use Rattle.fetch_pack.specs.Once.{AreNamed}
 use Rattle.fetch_refs.specs.Expectations.{fails}
 use Rattle.fetch_refs.specs.Names.{Names}

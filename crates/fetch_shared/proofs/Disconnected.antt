@@ -1,8 +1,8 @@
 -- A pack that is refused as disconnected isn't honest for its plan.
 use Rattle.std.proofs.Common.{◌≡◌, List, [], None, Some, refl, sym, ap, ◌∙◌, subst}
 use Rattle.std.specs.Prelude.{slice_get}
-use Rattle.fetch_store.specs.declared.id.Kind.{Kind}
-use Rattle.fetch_store.specs.declared.id.ObjectId.{ObjectId}
+use Rattle.fetch_base.specs.declared.id.Kind.{Kind}
+use Rattle.fetch_base.specs.declared.id.ObjectId.{ObjectId}
 use Rattle.fetch_store.specs.declared.missing.Missing.{Missing}
 use Rattle.fetch_store.specs.Closed.{Grows}
 use Rattle.fetch_store.specs.Honest.{IsHonest}

@@ -1,6 +1,6 @@
 -- What is kept where an event has its effect.
 use Rattle.std.proofs.Common.{◌≡◌, List, [], ◌∷◌, ◌++◌, None, Some, ⊎_elim, refl, sym, ap, subst, ◌∙◌}
-use Rattle.fetch_store.specs.declared.id.ObjectId.{ObjectId}
+use Rattle.fetch_base.specs.declared.id.ObjectId.{ObjectId}
 use Rattle.fetch_store.specs.Borders.{IdSet, merged}
 use Rattle.fetch_store.specs.Closed.{IsClosed, AreAllOf, holding}
 use Rattle.fetch_store.specs.Honest.{Pack}

@@ -1,6 +1,6 @@
 -- What a refusal behind the taking is one of.
 use Rattle.std.proofs.Common.{◌≡◌, ◌⊎◌, List, ℕ, Option, None, refl, sym, subst, inl, inr}
-use Rattle.fetch_store.specs.Trees.{Tree}
+use Rattle.fetch_files.specs.Trees.{Tree}
 use Rattle.fetch_conversation.specs.declared.fetch.Error.{Error}
 use Rattle.fetch_conversation.specs.declared.fetch.Error.TheVariants as receive
 use Rattle.fetch_remote.specs.Blame.{fault_in}

@@ -4,8 +4,8 @@ use Rattle.std.specs.Prelude.{unwrap_or, ⊤}
 use Rattle.std.specs.FinMap as finmap
 use Rattle.std.specs.Option.{option_or}
 use Rattle.fetch_store.specs.Graph.{Graph}
-use Rattle.fetch_store.specs.declared.id.Kind.{Kind}
-use Rattle.fetch_store.specs.declared.id.ObjectId.{ObjectId}
+use Rattle.fetch_base.specs.declared.id.Kind.{Kind}
+use Rattle.fetch_base.specs.declared.id.ObjectId.{ObjectId}
 use Rattle.fetch_store.specs.Objects.{Stored}
 use Rattle.fetch_store.specs.Stores.{Entries, collision}
 use Rattle.fetch_pack.specs.declared.error.PackError.{PackError}

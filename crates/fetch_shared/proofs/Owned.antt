@@ -1,7 +1,7 @@
 -- Refusals that a shared repository makes by itself: none of them is one of a fetch. Those behind the conversation are neither
 -- the peer's fault nor a yes.
 use Rattle.std.proofs.Common.{◌≡◌, ◌⊎◌, ℕ, Bool, false, true, List, Option, None, Some, Result, Ok, Err, IfErr, refl, subst, inl, inr}
-use Rattle.fetch_store.specs.declared.id.ObjectId.{ObjectId}
+use Rattle.fetch_base.specs.declared.id.ObjectId.{ObjectId}
 use Rattle.fetch_store.specs.declared.missing.Missing.{Missing}
 use Rattle.fetch_refs.specs.declared.edit.RefEdit.{RefEdit}
 use Rattle.fetch_refs.specs.declared.log.Signature.{Signature}

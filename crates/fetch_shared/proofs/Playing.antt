@@ -26,10 +26,10 @@ use Rattle.fetch_shared.proofs.Replays.{replay-append}
 use Rattle.std.specs.FinSet as set
 use Rattle.std.specs.Ordering.{eq_by_cmp}
 use Rattle.std.proofs.lemmas.List.Folds.{list_any-append}
-use Rattle.fetch_store.specs.declared.id.ObjectId.{ObjectId}
+use Rattle.fetch_base.specs.declared.id.ObjectId.{ObjectId}
 use Rattle.fetch_store.specs.Borders.{set_of, merged}
-use Rattle.fetch_store.specs.Stores.{id_cmp}
-use Rattle.fetch_store.proofs.Ids.{id_cmp_total, id_cmp_exact}
+use Rattle.fetch_base.specs.Id.{id_cmp}
+use Rattle.fetch_base.proofs.Ids.{id_cmp_total, id_cmp_exact}
 
 -- the ids of two lists, one after the other
 pub ids_more : (xs ys : List ObjectId) → set_of (xs ++ ys) ≡ set.union (set_of xs) (set_of ys)

@@ -3,13 +3,14 @@ use Rattle.std.proofs.Common.{◌≡◌, ◌||◌, ℕ, List, [], ◌∷◌, ◌
 use Rattle.std.specs.FinMap as fin
 use Rattle.std.specs.FinMap.Entries.{is_some-find}
 use Rattle.std.specs.FinSet as set
-use Rattle.fetch_store.specs.declared.id.ObjectId.{ObjectId}
+use Rattle.fetch_base.specs.declared.id.ObjectId.{ObjectId}
 use Rattle.fetch_store.specs.Borders.{set_of, merged}
 use Rattle.fetch_store.specs.Honest.{Pack}
 use Rattle.fetch_store.specs.Objects.{Stored}
-use Rattle.fetch_store.specs.Stores.{id_cmp, ObjectMap, Entries, add_all, first_some}
+use Rattle.fetch_store.specs.Stores.{ObjectMap, Entries, add_all, first_some}
+use Rattle.fetch_base.specs.Id.{id_cmp}
 use Rattle.fetch_store.proofs.Additions.{get-add_all}
-use Rattle.fetch_store.proofs.Ids.{id_cmp_total, id_cmp_exact}
+use Rattle.fetch_base.proofs.Ids.{id_cmp_total, id_cmp_exact}
 use Rattle.fetch_remote.specs.RepositoryValues.{RepositoryValue}
 use Rattle.fetch_shared.specs.declared.entry.Entry.{Entry}
 use Rattle.fetch_shared.specs.declared.entry.Entry.TheVariants as entries

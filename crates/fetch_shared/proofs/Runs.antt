@@ -4,7 +4,7 @@ use Rattle.std.specs.Prelude.{if◌then◌else◌}
 use Rattle.std.specs.List.{AllByRecursion}
 use Rattle.fetch_store.specs.Closed.{Grows, IsClosed, AreAllOf}
 use Rattle.fetch_store.specs.Stores.{ObjectMap, Entries, AreOf, add_all}
-use Rattle.fetch_store.specs.declared.id.Kind.{Kind}
+use Rattle.fetch_base.specs.declared.id.Kind.{Kind}
 use Rattle.fetch_store.proofs.Growth.{grows_self, grows_trans, grows-add_all, added_cases}
 use Rattle.fetch_store.proofs.Lists.{All-find, All-of}
 use Rattle.fetch_store.proofs.Whole.{whole_closed, none_connects}

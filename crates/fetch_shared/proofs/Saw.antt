@@ -1,7 +1,7 @@
 -- What turns that a pass took tell of the states that they found and left.
 use Rattle.std.proofs.Common.{◌≡◌, ◌⊎◌, ℕ, List, length, Option, None, Some, Ok, Err, refl, sym, ap, subst, inl, inr}
-use Rattle.fetch_store.specs.Answers.{RefusesUnless}
-use Rattle.fetch_store.specs.declared.id.ObjectId.{ObjectId}
+use Rattle.fetch_base.specs.Answers.{RefusesUnless}
+use Rattle.fetch_base.specs.declared.id.ObjectId.{ObjectId}
 use Rattle.fetch_negotiate.specs.declared.algorithm.Shallow.{Shallow}
 use Rattle.fetch_conversation.specs.declared.conversing.Received.{Received}
 use Rattle.fetch_specs.specs.declared.tags.Tags.{Tags}

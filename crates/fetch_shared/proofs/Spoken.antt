@@ -11,7 +11,7 @@ use Rattle.fetch_conversation.specs.declared.conversing.Received.{Received}
 use Rattle.fetch_conversation.specs.declared.fetch.Error.{Error as ReceiveError}
 use Rattle.fetch_conversation.specs.declared.listing.Listed.{Listed}
 use Rattle.fetch_conversation.specs.declared.prepare.Error.{Error as PrepareError}
-use Rattle.fetch_store.specs.declared.id.ObjectId.{ObjectId}
+use Rattle.fetch_base.specs.declared.id.ObjectId.{ObjectId}
 use Rattle.fetch_remote.specs.Errors.{preparing, receiving}
 use Rattle.fetch_remote.specs.Form.{Given}
 use Rattle.fetch_remote.specs.Stages.{bound_of, wants_in, terms_in, listing_stage, pack_stage}

@@ -1,6 +1,6 @@
 -- How inner refusals are told: each as one of its own, a fault as one, and a yes as a yes.
 use Rattle.std.proofs.Common.{◌≡◌, Bool, refl, sym, ap, ◌∙◌, subst}
-use Rattle.fetch_store.specs.Faults.{Faults}
+use Rattle.fetch_base.specs.Faults.{Faults}
 use Rattle.fetch_conversation.specs.Blame.{BlamesPeer}
 use Rattle.fetch_conversation.specs.Errors.{is_transport, is_client, is_interrupted, is_stopped}
 use Rattle.fetch_conversation.specs.declared.fetch.Error.{Error as ReceiveError}

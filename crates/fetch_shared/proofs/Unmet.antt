@@ -2,7 +2,7 @@
 use Rattle.std.proofs.Common.{◌≡◌, ℕ, List, Option, None, Some, option_map, ⊎_elim, refl, sym, ap, subst, ◌∙◌}
 use Rattle.std.specs.Prelude.{position, slice_get, MatchOption, Err}
 use Rattle.std.specs.FinMap as fin
-use Rattle.fetch_store.specs.Answers.{RefusesUnless}
+use Rattle.fetch_base.specs.Answers.{RefusesUnless}
 use Rattle.fetch_refs.specs.declared.edit.RefEdit.{RefEdit}
 use Rattle.fetch_refs.specs.declared.error.RefError.{RefError}
 use Rattle.fetch_refs.specs.declared.error.RefError.TheVariants as causes

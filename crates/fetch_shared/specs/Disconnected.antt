@@ -1,6 +1,6 @@
 -- A pack that a shared fetch refused as disconnected: what it was asked for over, and what it was refused by.
 use Rattle.std.specs.Prelude.{List}
-use Rattle.fetch_store.specs.declared.id.ObjectId.{ObjectId}
+use Rattle.fetch_base.specs.declared.id.ObjectId.{ObjectId}
 use Rattle.fetch_store.specs.declared.missing.Missing.{Missing}
 use Rattle.fetch_store.specs.Honest.{Pack, Request}
 use Rattle.fetch_remote.specs.RepositoryValues.{RepositoryValue}

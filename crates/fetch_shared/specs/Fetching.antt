@@ -1,7 +1,7 @@
 -- A fetch over a shared repository. "The state at `planned`" and "at `judged`" are those that this many entries leave of what
 -- the pass has seen in the end.
 use Rattle.std.specs.Prelude.{◌≡◌, ◌⊎◌, ℕ, false, List, [], Option, Some, None}
-use Rattle.fetch_store.specs.Trees.{Tree}
+use Rattle.fetch_files.specs.Trees.{Tree}
 use Rattle.fetch_update.specs.declared.worktrees.Worktree.{Worktree}
 use Rattle.fetch_wire.specs.Talks.{Talks, IsFront}
 use Rattle.fetch_wire.specs.Written.{lines_text}

@@ -1,10 +1,10 @@
 -- The repository that a prefix of a journal leaves, up to two objects with one id.
 use Rattle.std.specs.Prelude.{◌≡◌, List, None, Some, ⊤}
 use Rattle.std.specs.FinMap as map
-use Rattle.fetch_store.specs.declared.id.Kind.{Kind}
-use Rattle.fetch_store.specs.declared.id.ObjectId.{ObjectId}
+use Rattle.fetch_base.specs.declared.id.Kind.{Kind}
+use Rattle.fetch_base.specs.declared.id.ObjectId.{ObjectId}
 use Rattle.fetch_store.specs.Closed.{IsClosed, AreAllOf, Grows}
-use Rattle.fetch_store.specs.Hashing.{id_of}
+use Rattle.fetch_base.specs.Hashing.{id_of}
 use Rattle.fetch_store.specs.Objects.{Stored}
 use Rattle.fetch_store.specs.Stores.{ObjectMap, AreOf}
 use Rattle.fetch_pack.specs.Once.{AreNamed}

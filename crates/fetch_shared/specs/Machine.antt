@@ -2,7 +2,7 @@
 use Rattle.std.specs.Prelude.{◌≡◌, ℕ, Bool, List, [], ◌∷◌, ◌++◌, map, find, Option, None, is_some, option_map, slice_get, if◌then◌else◌}
 use Rattle.std.specs.FinMap as finmap
 use Rattle.std.specs.Option.{option_or}
-use Rattle.fetch_store.specs.declared.id.ObjectId.{ObjectId}
+use Rattle.fetch_base.specs.declared.id.ObjectId.{ObjectId}
 use Rattle.fetch_store.specs.Borders.{merged}
 use Rattle.fetch_store.specs.Closed.{Holding, holding}
 use Rattle.fetch_store.specs.Honest.{Pack, Request}

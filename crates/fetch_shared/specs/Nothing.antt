@@ -2,7 +2,7 @@
 use Rattle.std.specs.Prelude.{[], None, false, pos}
 use Rattle.std.specs.FinMap as map
 use Rattle.std.specs.FinSet as set
-use Rattle.fetch_store.specs.declared.id.Kind.TheVariants.{Sha1}
+use Rattle.fetch_base.specs.declared.id.Kind.TheVariants.{Sha1}
 use Rattle.fetch_config.specs.Contents.{Contents}
 use Rattle.fetch_config.specs.declared.meta.Origin.TheVariants.{Local}
 use Rattle.fetch_refs.specs.declared.log.Signature.{Signature}

@@ -2,7 +2,7 @@
 use Rattle.std.specs.Prelude.{◌≡◌, List, [], ◌∷◌, None, ⊤}
 use Rattle.std.specs.FinMap as map
 use Rattle.std.specs.FinSet as set
-use Rattle.fetch_store.specs.declared.id.Kind.{Kind}
+use Rattle.fetch_base.specs.declared.id.Kind.{Kind}
 use Rattle.fetch_store.specs.Borders.{IdSet, set_of, merged}
 use Rattle.fetch_refs.specs.Expectations.{refusal_of}
 use Rattle.fetch_refs.specs.Names.{Names, RefsValue}

@@ -1,6 +1,6 @@
 -- The states that a pass has seen, by how many entries of its front lead to them.
 use Rattle.std.specs.Prelude.{◌≡◌, ℕ, List, length, Option, None, Some, ⊤}
-use Rattle.fetch_store.specs.declared.id.ObjectId.{ObjectId}
+use Rattle.fetch_base.specs.declared.id.ObjectId.{ObjectId}
 use Rattle.fetch_conversation.specs.declared.conversing.Received.{Received}
 use Rattle.fetch_remote.specs.Applying.{pack_of}
 use Rattle.fetch_remote.specs.RepositoryValues.{RepositoryValue}

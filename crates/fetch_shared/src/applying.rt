@@ -2,8 +2,8 @@
 
 ghost use Rattle.std.specs.Prelude.{◌≡◌, ℕ, List as Items, None, Some, IfOk, IfErr, IfSome, MatchResult, OnOk, OnErr};
 ghost use Rattle.std.specs.Option.{option_map};
-ghost use Rattle.fetch_store.specs.Faults.{Rose, Counts};
-ghost use Rattle.fetch_store.specs.FileCalls.{IsRefused as IsBlocked};
+ghost use Rattle.fetch_base.specs.Faults.{Rose, Counts};
+ghost use Rattle.fetch_files.specs.FileCalls.{IsRefused as IsBlocked};
 ghost use Rattle.fetch_store.specs.Stores.{AreOf};
 ghost use Rattle.fetch_pack.specs.Once.{AreNamed};
 ghost use Rattle.fetch_conversation.specs.ListStage.{shown};

@@ -1,7 +1,7 @@
 //! Edits and deletions of a repository's references.
 
 ghost use Rattle.std.specs.Prelude.{◌≡◌, ◌⊎◌, OnOk, OnErr, IfOk, map};
-ghost use Rattle.fetch_store.specs.Answers.{RefusesUnless};
+ghost use Rattle.fetch_base.specs.Answers.{RefusesUnless};
 ghost use Rattle.fetch_shared.specs.Deletions.{without};
 ghost use Rattle.fetch_shared.specs.Deletions as deletions;
 ghost use Rattle.fetch_shared.specs.Unmet as spec;

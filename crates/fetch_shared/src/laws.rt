@@ -9,7 +9,7 @@ ghost use Rattle.fetch_store.specs.Closed.{IsClosed, IsStored, Grows};
 ghost use Rattle.fetch_store.specs.Honest.{Pack, IsHonest};
 ghost use Rattle.fetch_store.specs.Missing.{missing};
 ghost use Rattle.fetch_store.specs.Stores.{AreOf, collision};
-ghost use Rattle.fetch_store.specs.declared.id.ObjectId.{ObjectId};
+ghost use Rattle.fetch_base.specs.declared.id.ObjectId.{ObjectId};
 ghost use Rattle.fetch_store.specs.declared.missing.Missing.{Missing};
 ghost use Rattle.fetch_refs.specs.Expectations.{refusal_of};
 ghost use Rattle.fetch_refs.specs.Names.{Names, RefsValue};

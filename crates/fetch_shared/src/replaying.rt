@@ -2,7 +2,7 @@
 
 ghost use Rattle.std.specs.Prelude.{◌≡◌, IfErr, IfOk, IsErrAnd, MatchOption, MatchResult, OnOk};
 ghost use Rattle.std.specs.List.Sorted.{IsStrictlySortedBy};
-ghost use Rattle.fetch_store.specs.Stores.{id_cmp};
+ghost use Rattle.fetch_base.specs.Id.{id_cmp};
 ghost use Rattle.fetch_refs.specs.Answers.{IsUnlessMemory};
 ghost use Rattle.fetch_refs.specs.Expectations.{refusal_of};
 ghost use Rattle.fetch_refs.specs.declared.error.RefError.TheVariants as causes;

@@ -1,7 +1,7 @@
 //! The state that is shared.
 
 ghost use Rattle.std.specs.Prelude.{◌≡◌, IfOk, IfErr, IsOk, OnOk, OnErr, MatchOption, Err, length, slice_get};
-ghost use Rattle.fetch_store.specs.Answers.{RefusesUnless};
+ghost use Rattle.fetch_base.specs.Answers.{RefusesUnless};
 ghost use Rattle.fetch_store.specs.Missing.{unclosed};
 ghost use Rattle.fetch_store.specs.Stores.{AreOf};
 ghost use Rattle.fetch_pack.specs.Once.{AreNamed};

@@ -1,7 +1,7 @@
 //! Packs that are about to be taken.
 
 ghost use Rattle.std.specs.Prelude.{◌≡◌, IfOk, None, OnErr, OnOk, map};
-ghost use Rattle.fetch_store.specs.Answers.{RefusesUnless};
+ghost use Rattle.fetch_base.specs.Answers.{RefusesUnless};
 ghost use Rattle.fetch_store.specs.Borders as borders;
 ghost use Rattle.fetch_store.specs.Closed.{holding};
 ghost use Rattle.fetch_store.specs.References.{pack_of};

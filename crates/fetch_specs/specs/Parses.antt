@@ -3,9 +3,9 @@ use Rattle.std.specs.Prelude.{◌≡◌, ℕ, ◌+◌, ◌==◌, nat_lt, Bool, t
 use Rattle.std.specs.Prelude.{drop, count_by, position, codes, Option, Some, None, is_some, Result, Ok, Err}
 use Rattle.std.specs.List.{list_any}
 use Rattle.std.specs.Str.{bytes_eq}
-use Rattle.fetch_store.specs.Id.{id_in_hex}
-use Rattle.fetch_store.specs.declared.id.Kind.TheVariants as kinds
-use Rattle.fetch_store.specs.declared.id.ObjectId.{ObjectId}
+use Rattle.fetch_base.specs.Id.{id_in_hex}
+use Rattle.fetch_base.specs.declared.id.Kind.TheVariants as kinds
+use Rattle.fetch_base.specs.declared.id.ObjectId.{ObjectId}
 use Rattle.fetch_specs.specs.declared.operation.Operation.{Operation}
 use Rattle.fetch_specs.specs.declared.operation.Operation.TheVariants.{Push, Fetch}
 use Rattle.fetch_specs.specs.declared.operation.Mode.{Mode}

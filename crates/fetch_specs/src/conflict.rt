@@ -9,7 +9,7 @@ ghost use Rattle.fetch_specs.specs.declared.error.SpecError.TheVariants as error
 
 use crate::error::SpecError;
 use crate::found::{Match, SourceRef};
-use fetch_store::{List, NoMemory, Text};
+use fetch_base::{List, NoMemory, Text};
 use std::alloc::Global;
 use std::collections::BTreeMap;
 

@@ -1,6 +1,6 @@
 //! Why a name or a refspec is refused.
 
-use fetch_store::NoMemory;
+use fetch_base::NoMemory;
 use std::alloc::{AllocError, AllocFailed};
 use thiserror::Error;
 

@@ -3,7 +3,7 @@
 ghost use Rattle.std.specs.Prelude.{◌≡◌, ◌<◌, ◌++◌, if◌then◌else◌, [], ◌∷◌, vec_len, vec_capacity, IfOk, OnOk};
 ghost use Rattle.fetch_specs.specs.Matches as spec;
 
-use fetch_store::{NoMemory, ObjectId, Text};
+use fetch_base::{NoMemory, ObjectId, Text};
 use std::alloc::Global;
 use std::collections::BTreeSet;
 use std::marker::Model;

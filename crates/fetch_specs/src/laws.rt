@@ -4,7 +4,7 @@
 ghost use Rattle.std.specs.Prelude.{Bool, List, ℕ, Some, [], false, is_some, true, IsTrue, ◌≡◌, ◌↔◌};
 ghost use Rattle.std.specs.List.{Contains, list_any};
 ghost use Rattle.std.specs.Str.{bytes_eq};
-ghost use Rattle.fetch_store.specs.declared.id.Kind.{Kind};
+ghost use Rattle.fetch_base.specs.declared.id.Kind.{Kind};
 ghost use Rattle.fetch_specs.specs.Conflicts.{conflicts_of, IsConflict};
 ghost use Rattle.fetch_specs.specs.Leads.{IsInOrder, IsOwnSource, mapped_to};
 ghost use Rattle.fetch_specs.specs.Made.{are_ordered, IsFirst, IsLead, IsMapping};

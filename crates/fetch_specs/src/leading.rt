@@ -15,7 +15,7 @@ use crate::matching::{Item, is_excluded, is_exclusion};
 use crate::pattern::{back_of, between, front_of, has_star, is_completed, where_true, with_middle};
 use crate::reading::id_named;
 use crate::spec::RefSpec;
-use fetch_store::{NoMemory, Text};
+use fetch_base::{NoMemory, Text};
 use std::alloc::Global;
 
 /// What a destination's star stands for in a text: nothing, where it has none.

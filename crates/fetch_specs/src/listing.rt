@@ -16,7 +16,7 @@ use crate::error::SpecError;
 use crate::pattern::has_star;
 use crate::reading::id_named;
 use crate::spec::RefSpec;
-use fetch_store::{NoMemory, Text};
+use fetch_base::{NoMemory, Text};
 use std::alloc::Global;
 use std::collections::BTreeSet;
 

@@ -6,7 +6,7 @@ ghost use Rattle.fetch_specs.specs.Exact.{HasPlaces};
 
 use crate::matching::Item;
 use crate::spec::RefSpec;
-use fetch_store::{NoMemory, Text};
+use fetch_base::{NoMemory, Text};
 use std::alloc::Global;
 use std::collections::BTreeMap;
 

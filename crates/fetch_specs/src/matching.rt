@@ -17,7 +17,7 @@ use crate::name::PartialName;
 use crate::pattern::{exact, expanded, taken};
 use crate::reading::id_named;
 use crate::spec::RefSpec;
-use fetch_store::{Kind, NoMemory, ObjectId, Text};
+use fetch_base::{Kind, NoMemory, ObjectId, Text};
 use std::alloc::Global;
 use std::collections::BTreeMap;
 use std::marker::Model;

@@ -13,7 +13,7 @@ ghost use Rattle.fetch_specs.specs.Categories.{category_of, prefix_of, shortened
 use crate::category::Category;
 use crate::error::NameError;
 use crate::grammar;
-use fetch_store::{NoMemory, Text};
+use fetch_base::{NoMemory, Text};
 use std::alloc::Global;
 use std::cmp::Ordering;
 use std::marker::Model;

@@ -7,7 +7,7 @@ ghost use Rattle.std.specs.Str.{bytes_eq};
 ghost use Rattle.fetch_specs.specs.Exact as exactly;
 ghost use Rattle.fetch_specs.specs.Matches as spec;
 
-use fetch_store::NoMemory;
+use fetch_base::NoMemory;
 use std::alloc::Global;
 
 /// Whether the text is a pattern.

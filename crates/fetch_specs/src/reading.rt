@@ -11,7 +11,7 @@ ghost use Rattle.fetch_specs.specs.declared.error.SpecError.TheVariants as error
 use crate::error::SpecError;
 use crate::grammar::name_trouble;
 use crate::operation::{Mode, Operation};
-use fetch_store::{Kind, ObjectId};
+use fetch_base::{Kind, ObjectId};
 
 /// The sides of a refspec, lent from its text.
 #[derive(Clone, Copy, Debug)]

@@ -12,7 +12,7 @@ ghost use Rattle.fetch_specs.specs.declared.operation.Mode.TheVariants as modes;
 use crate::error::SpecError;
 use crate::operation::{Mode, Operation};
 use crate::reading::{Parts, parts_of};
-use fetch_store::{NoMemory, Text, TryClone};
+use fetch_base::{NoMemory, Text, TryClone};
 use std::alloc::{AllocError, Global};
 use std::marker::Model;
 

@@ -5,11 +5,13 @@ use Rattle.std.specs.Ordering.{eq_by_cmp}
 use Rattle.std.specs.FinMap.{get}
 use Rattle.std.proofs.lemmas.List.Elements.{All-nil, All-cons, All-weaker}
 use Rattle.std.proofs.lemmas.Slice.Eq.{bytes_eq-Decides}
-use Rattle.fetch_store.specs.declared.id.ObjectId.{ObjectId}
-use Rattle.fetch_store.specs.declared.object_kind.ObjectKind.{ObjectKind}
-use Rattle.fetch_store.specs.declared.object_kind.ObjectKind.TheVariants.{Commit, Tree, Blob, Tag}
-use Rattle.fetch_store.specs.Objects.{Stored, is_kind, has_same_text}
-use Rattle.fetch_store.specs.Stores.{id_cmp, Entries, ObjectMap, add, first_some, clashes, collision}
+use Rattle.fetch_base.specs.declared.id.ObjectId.{ObjectId}
+use Rattle.fetch_base.specs.declared.object_kind.ObjectKind.{ObjectKind}
+use Rattle.fetch_base.specs.declared.object_kind.ObjectKind.TheVariants.{Commit, Tree, Blob, Tag}
+use Rattle.fetch_store.specs.Objects.{Stored, has_same_text}
+use Rattle.fetch_base.specs.Kinds.{is_kind}
+use Rattle.fetch_store.specs.Stores.{Entries, ObjectMap, add, first_some, clashes, collision}
+use Rattle.fetch_base.specs.Id.{id_cmp}
 use Rattle.fetch_store.proofs.Additions.{get-add}
 
 -- an id that the map has stands there with the entry's text

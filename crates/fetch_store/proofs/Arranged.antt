@@ -12,10 +12,10 @@ use Rattle.std.proofs.lemmas.Map.Keys.{sorted_head, sorted_tail, Less-from_sorte
 use Rattle.std.proofs.lemmas.List.Elements.{All-nil, All-cons, All-weaker, All-head, All-tail, All-contains, All-contains_itself}
 use Rattle.std.proofs.lemmas.List.Kept.{IsStrictlySortedBy-dedup, Any-dedup, Contains-from_dedup}
 use Rattle.std.proofs.lemmas.List.Sorted.{searchable_from_sorted, IsPermutation-sym, Contains-permutation}
-use Rattle.fetch_store.specs.declared.id.ObjectId.{ObjectId}
-use Rattle.fetch_store.specs.Stores.{id_cmp}
+use Rattle.fetch_base.specs.declared.id.ObjectId.{ObjectId}
+use Rattle.fetch_base.specs.Id.{id_cmp}
 use Rattle.fetch_store.specs.Entries.{IsConsistent, IsInOrder}
-use Rattle.fetch_store.proofs.Ids.{id_cmp_total, id_cmp_exact}
+use Rattle.fetch_base.proofs.Ids.{id_cmp_total, id_cmp_exact}
 use Rattle.fetch_store.proofs.Finds.{ties}
 use Rattle.fetch_store.proofs.Borders.{reversed}
 use Rattle.fetch_store.proofs.Lists.{All-find}

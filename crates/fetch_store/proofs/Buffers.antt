@@ -8,15 +8,15 @@ use Rattle.std.proofs.lemmas.List.{take-append-le, drop-append-le, length-map, l
 use Rattle.std.proofs.Math.Seq.{take-append_seam, drop-append_seam}
 use Rattle.std.proofs.lemmas.List.Elements.{All-nil, All-cons, All-head, All-tail, All-weaker, All-append, All-map, All-contains, Contains-get_or, Contains-append_left, Contains-append_right, Contains-push, recursion_from_All, All-from_recursion}
 use Rattle.std.proofs.lemmas.List.Sums.{sum_by-cons}
-use Rattle.fetch_store.specs.declared.id.Kind.{Kind}
-use Rattle.fetch_store.specs.declared.id.ObjectId.{ObjectId}
+use Rattle.fetch_base.specs.declared.id.Kind.{Kind}
+use Rattle.fetch_base.specs.declared.id.ObjectId.{ObjectId}
 use Rattle.fetch_store.specs.declared.span.Span.{Span}
-use Rattle.fetch_store.specs.Id.{kind_of}
+use Rattle.fetch_base.specs.Id.{kind_of, id_cmp}
 use Rattle.fetch_store.specs.Objects.{Stored, IsObject}
-use Rattle.fetch_store.specs.Stores.{id_cmp, Entries, AreOf, map_of, add_all, first_some, collision, payload_len}
+use Rattle.fetch_store.specs.Stores.{Entries, AreOf, map_of, add_all, first_some, collision, payload_len}
 use Rattle.fetch_store.specs.Entries.{IsConsistent, IsInOrder}
 use Rattle.fetch_store.specs.Buffers.{lent, Index, entries_in, IsLent, IsIndexed, IsAppended, IsTaken, first_of}
-use Rattle.fetch_store.proofs.Ids.{id_cmp_total, id_cmp_exact}
+use Rattle.fetch_base.proofs.Ids.{id_cmp_total, id_cmp_exact}
 use Rattle.fetch_store.proofs.Finds.{get-map_of, from}
 use Rattle.fetch_store.proofs.Additions.{get-add_all, last_none}
 use Rattle.fetch_store.proofs.Arranged.{IsArranged, order_of, All-found}

@@ -5,9 +5,11 @@ use Rattle.std.specs.FinMap.{find, get}
 use Rattle.std.proofs.lemmas.List.{append_assoc}
 use Rattle.std.proofs.lemmas.List.Elements.{All-contains}
 use Rattle.std.proofs.lemmas.Slice.Eq.{bytes_eq-Decides}
-use Rattle.fetch_store.specs.declared.id.ObjectId.{ObjectId}
-use Rattle.fetch_store.specs.Objects.{Stored, is_kind, has_same_text}
-use Rattle.fetch_store.specs.Stores.{id_cmp, Entries, ObjectMap, add, add_all, first_some, clashes, collision}
+use Rattle.fetch_base.specs.declared.id.ObjectId.{ObjectId}
+use Rattle.fetch_store.specs.Objects.{Stored, has_same_text}
+use Rattle.fetch_base.specs.Kinds.{is_kind}
+use Rattle.fetch_store.specs.Stores.{Entries, ObjectMap, add, add_all, first_some, clashes, collision}
+use Rattle.fetch_base.specs.Id.{id_cmp}
 use Rattle.fetch_store.specs.Collisions.{IsAt, Differs, AreAtOne, IsFirstToDiffer}
 use Rattle.fetch_store.proofs.Additions.{get-add_all, add_all-push}
 use Rattle.fetch_store.proofs.Agreement.{same_kind, parts_true}

@@ -9,25 +9,25 @@ use Rattle.std.specs.Str.Parse.{digits_value}
 use Rattle.std.proofs.lemmas.Bool.{eqb-true, and_parts, and_from, leb-true, le-leb, ltb-true, lt-ltb}
 use Rattle.std.proofs.lemmas.List.{take_at}
 use Rattle.std.proofs.lemmas.List.Elements.{All-nil, All-cons, All-head, All-tail}
-use Rattle.std.proofs.lemmas.List.Folds.{list_all-append}
 use Rattle.std.proofs.lemmas.Slice.Eq.{bytes_eq-Decides}
-use Rattle.fetch_store.specs.declared.id.Kind.{Kind}
-use Rattle.fetch_store.specs.declared.id.ObjectId.{ObjectId}
-use Rattle.fetch_store.specs.declared.object_kind.ObjectKind.TheVariants as objects
+use Rattle.fetch_base.specs.declared.id.Kind.{Kind}
+use Rattle.fetch_base.specs.declared.id.ObjectId.{ObjectId}
+use Rattle.fetch_base.specs.declared.object_kind.ObjectKind.TheVariants as objects
 use Rattle.fetch_store.specs.declared.grammar.Part.TheVariants.{Tree, Parent, Author, Committer}
 use Rattle.fetch_store.specs.declared.grammar.Expected.TheVariants as expect
-use Rattle.fetch_store.specs.Id.{id_in_hex}
-use Rattle.fetch_store.specs.Scan.{◌>>=◌, split_first, split_last, after, is_decimal, seconds_in, is_offset}
-use Rattle.fetch_store.specs.Lines.{IsWithout}
+use Rattle.fetch_base.specs.Id.{id_in_hex}
+use Rattle.fetch_base.specs.Scan.{◌>>=◌, split_first, split_last, after, is_decimal, seconds_in, is_offset}
+use Rattle.fetch_base.specs.Lines.{IsWithout}
 use Rattle.fetch_store.specs.Grammar.{Step, id_after, committed, parent_or_author, part_at}
-use Rattle.fetch_store.specs.Objects.{Reading, onto, reading, may_end, IsObject, link_in, parent_in, links_of, parents_of, seconds_of}
+use Rattle.fetch_store.specs.Objects.{Reading, onto, reading, may_end, IsObject, link_in, parent_in}
 use Rattle.fetch_store.specs.Objects as objects_spec
 use Rattle.fetch_store.specs.Texts.{IsHexId, line as text_line}
 use Rattle.fetch_store.specs.CommitTexts.{CommitParts, IsCommit, parent_line, signature, commit_text, SaysParts, CommitsAreTexts}
-use Rattle.fetch_store.proofs.LineLaws.{splits}
-use Rattle.fetch_store.proofs.LastLaws.{splits_last}
+use Rattle.fetch_base.proofs.LineLaws.{splits}
+use Rattle.fetch_base.proofs.LastLaws.{splits_last}
 use Rattle.fetch_store.proofs.Readings.{bind_some, part_shorter, reading_step, reading_end}
-use Rattle.fetch_store.proofs.TagTexts.{after_is, after_of, id_after_is, id_after_of, feedless, Accepts, some_part, headline, head_of}
+use Rattle.fetch_store.proofs.TagTexts.{id_after_is, id_after_of, feedless, Accepts, some_part, headline, head_of}
+use Rattle.fetch_base.proofs.Words.{after_of, after_is, parts_without, both_without}
 
 value_of : {A : Type 0} (b : Bool) (x y : A) → cond b (Some x) None ≡ Some y → (b ≡ true) × (x ≡ y)
 value_of true x y e = (refl, cc)
@@ -38,12 +38,6 @@ mapped f (Some x) y e = (x, refl, cc)
 mapped f None y e = absurd cc
 
 -- ---- bytes that stand nowhere
-pub both_without : (x : ℕ) (a b : List ℕ) → IsWithout x a → IsWithout x b → IsWithout x (a ++ b)
-both_without x a b p q = list_all-append (λ c. not (eqb c x)) a b ∙ and_from _ _ p q
-
-pub parts_without : (x : ℕ) (a b : List ℕ) → IsWithout x (a ++ b) → IsWithout x a × IsWithout x b
-parts_without x a b p = and_parts _ _ (sym (list_all-append (λ c. not (eqb c x)) a b) ∙ p)
-
 differs : (p : ℕ → Bool) (x c : ℕ) → p x ≡ false → p c ≡ true → not (eqb c x) ≡ true
 differs p x c never holds = by_test (eqb c x) refl
   where

@@ -5,15 +5,16 @@ use Rattle.std.specs.Ordering.{eq_by_cmp}
 use Rattle.std.specs.FinMap.{find, get, is_sorted, entries, len, from_sorted, same_map, get-from_sorted, entries-from_sorted, len-entries}
 use Rattle.std.proofs.lemmas.Slice.Eq.{bytes_eq-Decides}
 use Rattle.std.proofs.lemmas.List.Elements.{All-nil, All-cons, All-append, All-weaker, All-contains, All-from_recursion, recursion_from_All, Contains-get_or}
-use Rattle.fetch_store.specs.declared.id.Kind.{Kind}
-use Rattle.fetch_store.specs.declared.id.ObjectId.{ObjectId}
-use Rattle.fetch_store.specs.Id.{kind_of}
-use Rattle.fetch_store.specs.declared.object_kind.ObjectKind.{ObjectKind}
-use Rattle.fetch_store.specs.declared.object_kind.ObjectKind.TheVariants.{Commit, Tree, Blob, Tag}
-use Rattle.fetch_store.specs.Objects.{Stored, is_kind, has_same_text}
-use Rattle.fetch_store.specs.Stores.{id_cmp, Entries, ObjectMap, AreOf, map_of, add, add_all, first_some, clashes, collision}
+use Rattle.fetch_base.specs.declared.id.Kind.{Kind}
+use Rattle.fetch_base.specs.declared.id.ObjectId.{ObjectId}
+use Rattle.fetch_base.specs.Id.{kind_of, id_cmp}
+use Rattle.fetch_base.specs.declared.object_kind.ObjectKind.{ObjectKind}
+use Rattle.fetch_base.specs.declared.object_kind.ObjectKind.TheVariants.{Commit, Tree, Blob, Tag}
+use Rattle.fetch_store.specs.Objects.{Stored, has_same_text}
+use Rattle.fetch_base.specs.Kinds.{is_kind}
+use Rattle.fetch_store.specs.Stores.{Entries, ObjectMap, AreOf, map_of, add, add_all, first_some, clashes, collision}
 use Rattle.fetch_store.specs.Entries.{IsConsistent, IsInOrder}
-use Rattle.fetch_store.proofs.Ids.{id_cmp_total, id_cmp_exact}
+use Rattle.fetch_base.proofs.Ids.{id_cmp_total, id_cmp_exact}
 use Rattle.fetch_store.proofs.Finds.{ties, get-map_of}
 use Rattle.fetch_store.proofs.Additions.{get-add, get-add_all}
 use Rattle.fetch_store.proofs.Arranged.{consistent_in_order, order_of, present}

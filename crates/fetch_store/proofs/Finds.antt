@@ -5,10 +5,11 @@ use Rattle.std.specs.Option.{option_copied}
 use Rattle.std.specs.Ordering.{eq_by_cmp, is_eq}
 use Rattle.std.specs.Cmp.{Equal-is, tied_itself}
 use Rattle.std.specs.FinMap.{find, get, get-from_entries}
-use Rattle.fetch_store.specs.declared.id.ObjectId.{ObjectId}
+use Rattle.fetch_base.specs.declared.id.ObjectId.{ObjectId}
 use Rattle.fetch_store.specs.Objects.{Stored}
-use Rattle.fetch_store.specs.Stores.{id_cmp, Entries, map_of}
-use Rattle.fetch_store.proofs.Ids.{id_cmp_total, id_cmp_exact}
+use Rattle.fetch_store.specs.Stores.{Entries, map_of}
+use Rattle.fetch_base.specs.Id.{id_cmp}
+use Rattle.fetch_base.proofs.Ids.{id_cmp_total, id_cmp_exact}
 
 pub ties : (a b : ObjectId) → a ≡ b → eq_by_cmp id_cmp a b ≡ true
 ties a b same = ap (eq_by_cmp id_cmp a) (sym same) ∙ ap is_eq (tied_itself id_cmp_total a)

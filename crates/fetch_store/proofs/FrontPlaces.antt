@@ -6,12 +6,13 @@ use Rattle.std.proofs.lemmas.List.Sorted.{Contains-permutation, All-permutation}
 use Rattle.std.specs.List.Sorted.{IsPermutation}
 use Rattle.std.specs.Prelude.{IfSome, is_some}
 use Rattle.std.specs.FinMap.{find}
-use Rattle.fetch_store.specs.declared.id.Kind.TheVariants.{Sha1}
-use Rattle.fetch_store.specs.declared.object_kind.ObjectKind.TheVariants.{Blob}
-use Rattle.fetch_store.specs.declared.id.ObjectId.TheVariants as ids
-use Rattle.fetch_store.specs.declared.id.ObjectId.{ObjectId}
+use Rattle.fetch_base.specs.declared.id.Kind.TheVariants.{Sha1}
+use Rattle.fetch_base.specs.declared.object_kind.ObjectKind.TheVariants.{Blob}
+use Rattle.fetch_base.specs.declared.id.ObjectId.TheVariants as ids
+use Rattle.fetch_base.specs.declared.id.ObjectId.{ObjectId}
 use Rattle.fetch_store.specs.Objects.{Stored}
-use Rattle.fetch_store.specs.Stores.{id_cmp, Entries, first_some}
+use Rattle.fetch_store.specs.Stores.{Entries, first_some}
+use Rattle.fetch_base.specs.Id.{id_cmp}
 use Rattle.fetch_store.specs.Collisions.{HasDistinctIds}
 use Rattle.fetch_store.specs.Fronts.{front, Rise, AreFronts}
 use Rattle.fetch_store.proofs.Arranged.{none_found}

@@ -3,13 +3,14 @@ use Rattle.std.proofs.Common.{◌≡◌, List, ◌++◌, length, Some, None, ref
 use Rattle.std.specs.Prelude.{option_map}
 use Rattle.std.specs.FinMap.{find, len, len-entries, entries, entries_sorted, is_sorted, from_sorted, get-entries, get-from_sorted, entries-from_sorted, same_map}
 use Rattle.std.proofs.lemmas.List.Elements.{All-map, All-weaker}
-use Rattle.fetch_store.specs.declared.id.Kind.{Kind}
-use Rattle.fetch_store.specs.declared.id.ObjectId.{ObjectId}
+use Rattle.fetch_base.specs.declared.id.Kind.{Kind}
+use Rattle.fetch_base.specs.declared.id.ObjectId.{ObjectId}
 use Rattle.fetch_store.specs.Objects.{Stored}
-use Rattle.fetch_store.specs.Stores.{id_cmp, Entries, ObjectMap, AreOf, map_of, add_all, first_some, collision}
+use Rattle.fetch_store.specs.Stores.{Entries, ObjectMap, AreOf, map_of, add_all, first_some, collision}
+use Rattle.fetch_base.specs.Id.{id_cmp}
 use Rattle.fetch_store.specs.Entries.{IsConsistent, IsInOrder}
 use Rattle.fetch_store.specs.Graph.{Node, node_of, graph_of}
-use Rattle.fetch_store.proofs.Ids.{id_cmp_total, id_cmp_exact}
+use Rattle.fetch_base.proofs.Ids.{id_cmp_total, id_cmp_exact}
 use Rattle.fetch_store.proofs.Finds.{get-map_of}
 use Rattle.fetch_store.proofs.Additions.{get-add_all}
 use Rattle.fetch_store.proofs.Arranged.{IsArranged, arranged_found, order_of, truth}

@@ -5,11 +5,13 @@ use Rattle.std.specs.Option.{option_map_or}
 use Rattle.std.specs.FinMap.{find, get}
 use Rattle.std.specs.FinSet as set
 use Rattle.std.proofs.lemmas.List.Elements.{All-weaker}
-use Rattle.fetch_store.specs.declared.id.ObjectId.{ObjectId}
-use Rattle.fetch_store.specs.declared.id.Kind.{Kind}
-use Rattle.fetch_store.specs.declared.object_kind.ObjectKind.TheVariants.{Commit}
-use Rattle.fetch_store.specs.Objects.{Stored, is_kind}
-use Rattle.fetch_store.specs.Stores.{id_cmp, ObjectMap, AreOf, add_all, first_some, collision}
+use Rattle.fetch_base.specs.declared.id.ObjectId.{ObjectId}
+use Rattle.fetch_base.specs.declared.id.Kind.{Kind}
+use Rattle.fetch_base.specs.declared.object_kind.ObjectKind.TheVariants.{Commit}
+use Rattle.fetch_store.specs.Objects.{Stored}
+use Rattle.fetch_base.specs.Kinds.{is_kind}
+use Rattle.fetch_store.specs.Stores.{ObjectMap, AreOf, add_all, first_some, collision}
+use Rattle.fetch_base.specs.Id.{id_cmp}
 use Rattle.fetch_store.proofs.Additions.{get-add_all}
 use Rattle.fetch_store.specs.Borders.{merged}
 use Rattle.fetch_store.specs.Closed.{Grows, Holding, IsClosed, IsStored, IsCommit, is_commit, IsWalk, Reached, AreAllOf, links_within, links, others, parents}

@@ -8,14 +8,15 @@ use Rattle.std.specs.Ordering.{eq_by_cmp}
 use Rattle.std.specs.Cmp.{Equal-is}
 use Rattle.std.specs.FinMap.{find}
 use Rattle.std.specs.declared.cmp.Ordering.{Ordering}
-use Rattle.fetch_store.specs.declared.id.ObjectId.{ObjectId}
-use Rattle.fetch_store.specs.contracts.id.ObjectIdOrd.TheImpl as order
+use Rattle.fetch_base.specs.declared.id.ObjectId.{ObjectId}
+use Rattle.fetch_base.specs.contracts.id.ObjectIdOrd.TheImpl as order
 use Rattle.fetch_store.specs.Objects.{Stored}
-use Rattle.fetch_store.specs.Stores.{id_cmp, Entries}
+use Rattle.fetch_store.specs.Stores.{Entries}
+use Rattle.fetch_base.specs.Id.{id_cmp}
 use Rattle.fetch_store.specs.Indexes.{IsIndexOf}
-use Rattle.fetch_store.proofs.Ids.{id_cmp_exact}
+use Rattle.fetch_base.proofs.Ids.{id_cmp_exact}
 use Rattle.fetch_store.proofs.Finds.{ties, not_tied}
-use Rattle.fetch_store.proofs.Orders.{cmp_is}
+use Rattle.fetch_base.proofs.Orders.{cmp_is}
 
 abbrev pub Index : Type 0
 Index = BTreeMap ObjectId (Bor Stored)

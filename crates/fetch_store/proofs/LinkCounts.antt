@@ -1,10 +1,10 @@
 -- A part has one byte or more, and says one id at most.
 use Rattle.std.proofs.Common.{◌≡◌, ℕ, zero, suc, ◌+◌, ◌<◌, ◌≤◌, List, length, Option, Some, None, refl, sym, subst, arith}
 use Rattle.std.specs.List.{filter_map, cons_option}
-use Rattle.fetch_store.specs.declared.id.Kind.{Kind}
+use Rattle.fetch_base.specs.declared.id.Kind.{Kind}
 use Rattle.fetch_store.specs.declared.grammar.Part.{Part}
 use Rattle.fetch_store.specs.declared.grammar.Expected.{Expected}
-use Rattle.fetch_store.specs.declared.object_kind.ObjectKind.{ObjectKind}
+use Rattle.fetch_base.specs.declared.object_kind.ObjectKind.{ObjectKind}
 use Rattle.fetch_store.specs.Grammar.{Step, part_at}
 use Rattle.fetch_store.specs.Objects.{reading, first_of, link_in, links_of}
 use Rattle.fetch_store.proofs.Readings.{part_shorter, parts_step, parts_end}

@@ -5,13 +5,14 @@ use Rattle.std.specs.Ordering.{eq_by_cmp}
 use Rattle.std.specs.Cmp.{Equal-is}
 use Rattle.std.specs.FinMap.{find}
 use Rattle.std.proofs.lemmas.List.Elements.{recursion_from_All, All-from_recursion, All-nil, All-cons, All-head, All-tail}
-use Rattle.fetch_store.specs.declared.id.ObjectId.{ObjectId}
+use Rattle.fetch_base.specs.declared.id.ObjectId.{ObjectId}
 use Rattle.fetch_store.specs.declared.grammar.Part.{Part}
 use Rattle.fetch_store.specs.declared.grammar.Part.TheVariants.{Tree, Parent, Author, Committer, Entry, Submodule, Tagged, TaggedKind}
 use Rattle.fetch_store.specs.Objects.{Stored, reading_of, link_in, parent_in, other_link_in}
-use Rattle.fetch_store.specs.declared.id.Kind.{Kind}
-use Rattle.fetch_store.specs.Stores.{id_cmp, Entries, AreOf}
-use Rattle.fetch_store.proofs.Ids.{id_cmp_exact}
+use Rattle.fetch_base.specs.declared.id.Kind.{Kind}
+use Rattle.fetch_store.specs.Stores.{Entries, AreOf}
+use Rattle.fetch_base.specs.Id.{id_cmp}
+use Rattle.fetch_base.proofs.Ids.{id_cmp_exact}
 use Rattle.fetch_store.specs.Closed.{links, others, parents}
 
 abbrev parts_of : Stored → List Part

@@ -12,9 +12,9 @@ use Rattle.std.proofs.lemmas.List.{append-nil, get_or_default, get_or-map, get_o
 use Rattle.std.proofs.lemmas.List.Elements.{All-nil, All-push, Contains-push, filter_more}
 use Rattle.std.proofs.lemmas.List.Folds.{list_any-append}
 use Rattle.std.proofs.lemmas.Map.Keys.{Less-from_sorted}
-use Rattle.fetch_store.specs.declared.id.ObjectId.{ObjectId}
-use Rattle.fetch_store.specs.declared.id.ObjectId.TheVariants.{Sha1}
-use Rattle.fetch_store.specs.declared.object_kind.ObjectKind.TheVariants.{Commit}
+use Rattle.fetch_base.specs.declared.id.ObjectId.{ObjectId}
+use Rattle.fetch_base.specs.declared.id.ObjectId.TheVariants.{Sha1}
+use Rattle.fetch_base.specs.declared.object_kind.ObjectKind.TheVariants.{Commit}
 use Rattle.fetch_store.specs.declared.span.Span.{Span}
 use Rattle.fetch_store.specs.Borders.{IdSet}
 use Rattle.fetch_store.specs.Buffers.{Index}
@@ -23,7 +23,8 @@ use Rattle.fetch_store.specs.Found.{with_each}
 use Rattle.fetch_store.specs.Marks.{AreMarked, ids_at, is_among}
 use Rattle.fetch_store.specs.Objects.{Stored}
 use Rattle.fetch_store.specs.Spread.{next_to, nexts_in}
-use Rattle.fetch_store.specs.Stores.{ObjectMap, id_cmp}
+use Rattle.fetch_store.specs.Stores.{ObjectMap}
+use Rattle.fetch_base.specs.Id.{id_cmp}
 use Rattle.fetch_store.proofs.Borders.{named, named-Contains, reversed}
 
 -- ---- places of ids that are stored

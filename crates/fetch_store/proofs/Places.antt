@@ -4,23 +4,24 @@ use Rattle.std.specs.Prelude.{codes, nat_eq, nat_le, nat_lt}
 use Rattle.std.specs.List.{starts_with}
 use Rattle.std.specs.Str.Parse.{digits_value}
 use Rattle.std.proofs.lemmas.Bool.{and_from, le-leb, lt-ltb}
-use Rattle.fetch_store.specs.declared.id.Kind.{Kind}
-use Rattle.fetch_store.specs.declared.object_kind.ObjectKind.{ObjectKind}
+use Rattle.fetch_base.specs.declared.id.Kind.{Kind}
+use Rattle.fetch_base.specs.declared.object_kind.ObjectKind.{ObjectKind}
 use Rattle.fetch_store.specs.declared.grammar.Expected.{Expected}
 use Rattle.fetch_store.specs.declared.grammar.Expected.TheVariants as expect
-use Rattle.fetch_store.specs.Hashing.{name_of}
-use Rattle.fetch_store.specs.Scan.{◌>>=◌, split_first, is_decimal}
-use Rattle.fetch_store.specs.Lines.{IsWithout}
+use Rattle.fetch_base.specs.Hashing.{name_of}
+use Rattle.fetch_base.specs.Scan.{◌>>=◌, split_first, is_decimal}
+use Rattle.fetch_base.specs.Lines.{IsWithout}
 use Rattle.fetch_store.specs.Grammar.{Step, id_after, committed, parent_or_author, kind_after, part_at}
 use Rattle.fetch_store.specs.Objects.{Reading, reading, reading_of, first_of, may_end, is_object, place_of}
 use Rattle.fetch_store.specs.Texts.{line as text_line}
 use Rattle.fetch_store.specs.TreeTexts.{entry_text}
 use Rattle.fetch_store.specs.Places.{Signature, IsSignature, signature_text, MayStand, AreWhole, BreaksAt}
-use Rattle.fetch_store.proofs.LineLaws.{splits}
-use Rattle.fetch_store.proofs.LastLaws.{splits_last}
+use Rattle.fetch_base.proofs.LineLaws.{splits}
+use Rattle.fetch_base.proofs.LastLaws.{splits_last}
 use Rattle.fetch_store.proofs.Readings.{bind_some, part_shorter, reading_step, reading_end}
-use Rattle.fetch_store.proofs.TagTexts.{after_of, id_after_is, id_after_of, feedless, headline, head_of, tagged, typed, kind_after_is, kind_after_of, kind_feedless}
-use Rattle.fetch_store.proofs.CommitTexts.{treed, parented, authored, at_seconds, both_without, parts_without, decimal_without, offset_without, Headed, author, parent, headed, signed_of, committed_of, author_part, parent_part}
+use Rattle.fetch_store.proofs.TagTexts.{id_after_is, id_after_of, feedless, headline, head_of, tagged, typed, kind_after_is, kind_after_of, kind_feedless}
+use Rattle.fetch_base.proofs.Words.{after_of, parts_without, both_without}
+use Rattle.fetch_store.proofs.CommitTexts.{treed, parented, authored, at_seconds, decimal_without, offset_without, Headed, author, parent, headed, signed_of, committed_of, author_part, parent_part}
 use Rattle.fetch_store.proofs.TreeTexts.{made, front_of, part_of}
 
 -- ---- what is read is a line or an entry that may stand there

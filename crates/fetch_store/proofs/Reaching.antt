@@ -4,7 +4,7 @@ use Rattle.std.specs.FinMap.{get}
 use Rattle.std.specs.FinSet as set
 use Rattle.std.specs.Prelude.{IsSome, IsTrue, is_some, if◌then◌else◌}
 use Rattle.std.proofs.lemmas.List.Elements.{All-contains, All-contains_itself}
-use Rattle.fetch_store.specs.declared.id.ObjectId.{ObjectId}
+use Rattle.fetch_base.specs.declared.id.ObjectId.{ObjectId}
 use Rattle.fetch_store.specs.Objects.{Stored}
 use Rattle.fetch_store.specs.Closed.{Holding, Grows, IsClosed, IsStored, IsWalk, Reached, links, links_within, others}
 use Rattle.fetch_store.proofs.Lists.{others_from_links}

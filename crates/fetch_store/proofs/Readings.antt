@@ -3,13 +3,13 @@ use Rattle.std.proofs.Common.{◌≡◌, ℕ, zero, suc, ◌+◌, ◌<◌, ◌�
 use Rattle.std.specs.Prelude.{codes, nat_eq, nat_le, ◌==◌, ◌&&◌, nat_lt}
 use Rattle.std.specs.List.{position_or_len, starts_with, filter_map, cons_option}
 use Rattle.std.specs.Option.{option_map, option_map_or}
-use Rattle.fetch_store.specs.declared.id.Kind.{Kind}
+use Rattle.fetch_base.specs.declared.id.Kind.{Kind}
 use Rattle.fetch_store.specs.declared.grammar.Part.{Part}
 use Rattle.fetch_store.specs.declared.grammar.Part.TheVariants.{Tree, Parent, Author, Committer, Tagged, TaggedKind}
 use Rattle.fetch_store.specs.declared.grammar.Expected.{Expected}
 use Rattle.fetch_store.specs.declared.grammar.Expected.TheVariants as expect
-use Rattle.fetch_store.specs.Id.{byte_len}
-use Rattle.fetch_store.specs.Scan.{◌>>=◌, split_first}
+use Rattle.fetch_base.specs.Id.{byte_len}
+use Rattle.fetch_base.specs.Scan.{◌>>=◌, split_first}
 use Rattle.fetch_store.specs.Grammar.{Step, id_after, committed, parent_or_author, kind_after, is_mode, entry, entry_of, entry_at, part_at}
 use Rattle.fetch_store.specs.Objects.{Reading, onto, read, reading}
 

@@ -5,17 +5,17 @@ use Rattle.std.specs.List.{filter_map, cons_option, slice_get}
 use Rattle.std.specs.Option.{option_or, option_to_list}
 use Rattle.std.specs.Str.{bytes_eq}
 use Rattle.std.proofs.lemmas.List.{append-nil, append_assoc}
-use Rattle.fetch_store.specs.declared.id.Kind.{Kind}
-use Rattle.fetch_store.specs.declared.id.ObjectId.{ObjectId}
+use Rattle.fetch_base.specs.declared.id.Kind.{Kind}
+use Rattle.fetch_base.specs.declared.id.ObjectId.{ObjectId}
 use Rattle.fetch_store.specs.declared.grammar.Part.{Part}
 use Rattle.fetch_store.specs.declared.grammar.Part.TheVariants.{Entry, Submodule, Tagged, TaggedKind}
 use Rattle.fetch_store.specs.declared.grammar.Expected.{Expected}
 use Rattle.fetch_store.specs.declared.grammar.Expected.TheVariants as expect
-use Rattle.fetch_store.specs.Id.{byte_len, id_of_bytes}
-use Rattle.fetch_store.specs.Scan.{◌>>=◌, split_first}
+use Rattle.fetch_base.specs.Id.{byte_len, id_of_bytes}
+use Rattle.fetch_base.specs.Scan.{◌>>=◌, split_first}
 use Rattle.fetch_store.specs.Grammar.{Step, id_after, kind_after, is_mode, entry, entry_of, part_at}
-use Rattle.fetch_store.specs.declared.object_kind.ObjectKind.{ObjectKind}
-use Rattle.fetch_store.specs.declared.object_kind.ObjectKind.TheVariants as objects
+use Rattle.fetch_base.specs.declared.object_kind.ObjectKind.{ObjectKind}
+use Rattle.fetch_base.specs.declared.object_kind.ObjectKind.TheVariants as objects
 use Rattle.fetch_store.specs.Objects.{reading, first_of, parent_in, seconds_in}
 use Rattle.fetch_store.proofs.Readings.{bind_some, some_is, tested, part_shorter, no_part, parts_end, parts_skip, parts_step}
 

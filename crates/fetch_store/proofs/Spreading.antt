@@ -16,16 +16,16 @@ use Rattle.std.proofs.lemmas.List.Sums.{sum_by-cons, sum_by-take-drop, sum_by-ta
 use Rattle.std.proofs.lemmas.List.Sorted.{sum_by-IsPermutation, Contains-permutation, IsPermutation-sym}
 use Rattle.std.proofs.lemmas.List.Kept.{IsStrictlySortedBy-dedup}
 use Rattle.std.proofs.lemmas.Map.Keys.{IsDistinct-push, IsDistinct-head, IsDistinct-tail, IsDistinct-IsPermutation}
-use Rattle.fetch_store.specs.declared.id.ObjectId.{ObjectId}
+use Rattle.fetch_base.specs.declared.id.ObjectId.{ObjectId}
 use Rattle.fetch_store.specs.Objects.{Stored}
-use Rattle.fetch_store.specs.Stores.{id_cmp}
+use Rattle.fetch_base.specs.Id.{id_cmp}
 use Rattle.fetch_store.specs.Closed.{Holding, IsWalk, Reached, links_within}
-use Rattle.fetch_store.specs.Distinct.{with_distinct}
+use Rattle.fetch_base.specs.Distinct.{with_distinct}
 use Rattle.fetch_store.specs.Spread.{Nexts, IsNext, IsOneOn, IsPath, IsWithin, looked_at, next_to, nexts_in}
 use Rattle.fetch_store.specs.Found.{there, with_each, with_next}
 use Rattle.fetch_store.proofs.Borders.{named, Contains-named}
 use Rattle.fetch_store.proofs.Finds.{is_some-mapped}
-use Rattle.fetch_store.proofs.Ids.{id_cmp_total}
+use Rattle.fetch_base.proofs.Ids.{id_cmp_total}
 use Rattle.fetch_store.proofs.IndexOf.{same_test}
 use Rattle.fetch_store.proofs.Members.{first_in, later_in, cases_in, none_in, kept_in, passed_in}
 

@@ -1,49 +1,34 @@
 -- A tag's text in the words of its format.
-use Rattle.std.proofs.Common.{◌≡◌, ℕ, Bool, true, false, cond, not, ◌&&◌, eqb, List, [], ◌∷◌, ◌++◌, length, take, drop, Option, None, Some, Result, Ok, Err, refl, sym, ap, ap₂, subst, ◌∙◌, append_assoc}
-use Rattle.std.specs.Prelude.{codes, nat_eq, is_ok, IsTrue, map, slice_get}
-use Rattle.std.specs.List.{list_all, starts_with, AllPass}
+use Rattle.std.proofs.Common.{◌≡◌, ℕ, Bool, true, false, cond, not, ◌&&◌, eqb, List, [], ◌∷◌, ◌++◌, Option, None, Some, Result, Ok, Err, refl, sym, ap, ap₂, subst, ◌∙◌, append_assoc}
+use Rattle.std.specs.Prelude.{codes, is_ok, IsTrue, map, slice_get}
+use Rattle.std.specs.List.{list_all, AllPass}
 use Rattle.std.specs.Option.{option_map}
 use Rattle.std.specs.Result.{result_ok}
 use Rattle.std.specs.Str.{bytes_eq}
 use Rattle.std.proofs.lemmas.Slice.Eq.{bytes_eq-Decides}
-use Rattle.std.proofs.lemmas.List.{take-append-drop, take_at, drop_at}
 use Rattle.std.proofs.lemmas.List.Elements.{All-head, All-tail}
 use Rattle.std.proofs.lemmas.Bool.{eqb-true}
 use Rattle.hex.specs.Hex.{decode_sized, is_hex_digit}
 use Rattle.hex.proofs.HexLemmas.{IsOk-decode_sized}
-use Rattle.fetch_store.specs.declared.id.Kind.{Kind}
-use Rattle.fetch_store.specs.declared.id.ObjectId.{ObjectId}
-use Rattle.fetch_store.specs.declared.object_kind.ObjectKind.{ObjectKind}
-use Rattle.fetch_store.specs.declared.object_kind.ObjectKind.TheVariants as objects
+use Rattle.fetch_base.specs.declared.id.Kind.{Kind}
+use Rattle.fetch_base.specs.declared.id.ObjectId.{ObjectId}
+use Rattle.fetch_base.specs.declared.object_kind.ObjectKind.{ObjectKind}
+use Rattle.fetch_base.specs.declared.object_kind.ObjectKind.TheVariants as objects
 use Rattle.fetch_store.specs.declared.grammar.Part.TheVariants.{Tagged, TaggedKind}
 use Rattle.fetch_store.specs.declared.grammar.Expected.{Expected}
 use Rattle.fetch_store.specs.declared.grammar.Expected.TheVariants as expect
-use Rattle.fetch_store.specs.Hashing.{name_of}
-use Rattle.fetch_store.specs.Id.{byte_len, id_of_bytes, id_in_hex}
-use Rattle.fetch_store.specs.Scan.{◌>>=◌, split_first, after}
-use Rattle.fetch_store.specs.Lines.{IsWithout}
+use Rattle.fetch_base.specs.Hashing.{name_of}
+use Rattle.fetch_base.specs.Id.{byte_len, id_of_bytes, id_in_hex}
+use Rattle.fetch_base.specs.Scan.{◌>>=◌, split_first, after}
+use Rattle.fetch_base.specs.Lines.{IsWithout}
 use Rattle.fetch_store.specs.Grammar.{Step, id_after, kind_named, kind_after, part_at}
 use Rattle.fetch_store.specs.Objects.{Reading, reading, may_end, IsObject, link_in, links_of}
 use Rattle.fetch_store.specs.Texts.{IsHexId, TagParts, line as text_line, tag_text, TagsAreTexts}
-use Rattle.fetch_store.proofs.LineLaws.{splits}
+use Rattle.fetch_base.proofs.LineLaws.{splits}
 use Rattle.fetch_store.proofs.Readings.{bind_some, reading_step, reading_end, parts_take, parts_skip, parts_end}
+use Rattle.fetch_base.proofs.Words.{after_of, after_is}
 
 -- ---- words and ids
-pub after_is : (word line x : List ℕ) → after word line ≡ Some x → line ≡ word ++ x
-after_is word line x is = by_test (starts_with nat_eq line word) refl is
-  where
-    by_test : (b : Bool) → starts_with nat_eq line word ≡ b → cond b (Some (drop (length word) line)) None ≡ Some x → line ≡ word ++ x
-    by_test true e h =
-        let front : word ≡ take (length word) line = (bytes_eq-Decides word (take (length word) line)).0 e in
-        let back : drop (length word) line ≡ x = cc in
-        sym (take-append-drop (length word) line) ∙ ap₂ (λ a b. a ++ b) (sym front) back
-    by_test false e h = absurd cc
-
-pub after_of : (word x : List ℕ) → after word (word ++ x) ≡ Some x
-after_of word x =
-    ap (λ b. cond b (Some (drop (length word) (word ++ x))) None) ((bytes_eq-Decides word (take (length word) (word ++ x))).1 (sym (take_at word x (length word) refl)))
-    ∙ ap Some (drop_at word x (length word) refl)
-
 hex_of : (hash : Kind) (digits : List ℕ) (id : ObjectId) → id_in_hex hash digits ≡ Some id → IsHexId hash digits
 hex_of hash digits id is = (IsOk-decode_sized digits (byte_len hash)).0 (ok (decode_sized digits (byte_len hash)) is)
   where

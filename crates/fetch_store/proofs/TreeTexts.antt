@@ -8,18 +8,18 @@ use Rattle.std.proofs.lemmas.Bool.{eqb-true, and_from, leb-true, le-leb}
 use Rattle.std.proofs.lemmas.List.{take-append-drop, take_at, drop_at}
 use Rattle.std.proofs.lemmas.List.Elements.{All-nil, All-cons, All-head, All-tail}
 use Rattle.std.proofs.lemmas.List.Sums.{AllPass-from_list_all, list_all-from_AllPass}
-use Rattle.fetch_store.specs.declared.id.Kind.{Kind}
-use Rattle.fetch_store.specs.declared.id.ObjectId.{ObjectId}
-use Rattle.fetch_store.specs.declared.object_kind.ObjectKind.TheVariants as objects
+use Rattle.fetch_base.specs.declared.id.Kind.{Kind}
+use Rattle.fetch_base.specs.declared.id.ObjectId.{ObjectId}
+use Rattle.fetch_base.specs.declared.object_kind.ObjectKind.TheVariants as objects
 use Rattle.fetch_store.specs.declared.grammar.Part.TheVariants.{Entry, Submodule}
 use Rattle.fetch_store.specs.declared.grammar.Expected.TheVariants as expect
-use Rattle.fetch_store.specs.Id.{byte_len, id_of_bytes}
-use Rattle.fetch_store.specs.Scan.{◌>>=◌, split_first}
-use Rattle.fetch_store.specs.Lines.{IsWithout}
+use Rattle.fetch_base.specs.Id.{byte_len, id_of_bytes}
+use Rattle.fetch_base.specs.Scan.{◌>>=◌, split_first}
+use Rattle.fetch_base.specs.Lines.{IsWithout}
 use Rattle.fetch_store.specs.Grammar.{Step, is_mode, entry, entry_of, entry_at, part_at}
 use Rattle.fetch_store.specs.Objects.{Reading, may_end, IsObject, link_in, links_of}
 use Rattle.fetch_store.specs.TreeTexts.{TreeEntry, IsEntry, entry_text, tree_text, link_of, TreesAreTexts}
-use Rattle.fetch_store.proofs.LineLaws.{splits}
+use Rattle.fetch_base.proofs.LineLaws.{splits}
 use Rattle.fetch_store.proofs.Readings.{bind_some, part_shorter, reading_end, parts_step, parts_end}
 use Rattle.fetch_store.proofs.TagTexts.{Accepts, some_part, part_then}
 

@@ -10,9 +10,9 @@ use Rattle.std.specs.FinMap.{get, keys, entries, entries_sorted, get-entries, co
 use Rattle.std.specs.FinSet as set
 use Rattle.std.specs.Prelude.{is_some, slice_get, ◌↔◌}
 use Rattle.std.proofs.lemmas.List.Elements.{All-nil, All-cons, All-head, All-tail}
-use Rattle.fetch_store.specs.declared.id.ObjectId.{ObjectId}
+use Rattle.fetch_base.specs.declared.id.ObjectId.{ObjectId}
 use Rattle.fetch_store.specs.Objects.{Stored}
-use Rattle.fetch_store.specs.Stores.{id_cmp}
+use Rattle.fetch_base.specs.Id.{id_cmp}
 use Rattle.fetch_store.specs.Borders.{ids_of}
 use Rattle.fetch_store.specs.Closed.{Holding, IsClosed, IsStored, IsCommit, is_commit, links_within, links_at}
 use Rattle.fetch_store.specs.Missing.{missing_link, unstored, unlinked_in, unknown_in, unclosed}

@@ -12,13 +12,14 @@ use Rattle.std.proofs.lemmas.List.Elements.{All-contains, All-from_recursion, Co
 use Rattle.std.proofs.lemmas.List.Kept.{IsStrictlySortedBy-filter}
 use Rattle.std.proofs.lemmas.List.Sums.{sum_by-append, sum_by-cons, sum_by-take-le, sum_by_more}
 use Rattle.std.proofs.lemmas.Map.Keys.{IsDistinct-head, IsDistinct-tail}
-use Rattle.fetch_store.specs.declared.id.ObjectId.{ObjectId}
+use Rattle.fetch_base.specs.declared.id.ObjectId.{ObjectId}
 use Rattle.fetch_store.specs.Closed.{Holding, Reached, links_at, links_within}
 use Rattle.fetch_store.specs.Found.{there, with_each}
 use Rattle.fetch_store.specs.Marks.{is_among}
 use Rattle.fetch_store.specs.Objects.{Stored}
 use Rattle.fetch_store.specs.Spread.{IsNext, IsPath, IsWithin, Nexts, looked_at, next_to, nexts_in}
-use Rattle.fetch_store.specs.Stores.{ObjectMap, id_cmp}
+use Rattle.fetch_store.specs.Stores.{ObjectMap}
+use Rattle.fetch_base.specs.Id.{id_cmp}
 use Rattle.fetch_store.proofs.Borders.{Contains-named, named-Contains}
 use Rattle.fetch_store.proofs.Finds.{is_some-mapped, ties}
 use Rattle.fetch_store.proofs.Keys.{keys-rise}

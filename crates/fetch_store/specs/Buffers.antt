@@ -1,12 +1,12 @@
 -- Objects whose bytes stand in one buffer, under an index of ids.
 use Rattle.std.specs.Prelude.{◌≡◌, ℕ, ◌+◌, ◌≤◌, List, map, take, drop, length, All, Contains, Option}
 use Rattle.std.specs.FinMap as finmap
-use Rattle.fetch_store.specs.declared.id.Kind.{Kind}
-use Rattle.fetch_store.specs.declared.id.ObjectId.{ObjectId}
+use Rattle.fetch_base.specs.declared.id.Kind.{Kind}
+use Rattle.fetch_base.specs.declared.id.ObjectId.{ObjectId}
 use Rattle.fetch_store.specs.declared.span.Span.{Span}
-use Rattle.fetch_store.specs.Id.{kind_of}
+use Rattle.fetch_base.specs.Id.{kind_of, id_cmp}
 use Rattle.fetch_store.specs.Objects.{Stored, IsObject}
-use Rattle.fetch_store.specs.Stores.{id_cmp, Entries, map_of, add_all, first_some}
+use Rattle.fetch_store.specs.Stores.{Entries, map_of, add_all, first_some}
 use Rattle.fetch_store.specs.Entries.{IsInOrder}
 
 -- the object of a span

@@ -2,7 +2,7 @@
 use Rattle.std.specs.Prelude.{◌≡◌, ◌≢◌, ◌⊎◌, ◌∷◌, ◌++◌, Some, Contains}
 use Rattle.std.specs.List.{AllPairs}
 use Rattle.std.specs.FinMap as map
-use Rattle.fetch_store.specs.declared.id.ObjectId.{ObjectId}
+use Rattle.fetch_base.specs.declared.id.ObjectId.{ObjectId}
 use Rattle.fetch_store.specs.Objects.{Stored}
 use Rattle.fetch_store.specs.Stores.{ObjectMap, Entries}
 

@@ -1,9 +1,9 @@
 -- Ids found one after the other, each once.
 use Rattle.std.specs.Prelude.{List, [], ◌∷◌, filter, is_some}
-use Rattle.fetch_store.specs.declared.id.ObjectId.{ObjectId}
-use Rattle.fetch_store.specs.Distinct.{with_distinct}
+use Rattle.fetch_base.specs.declared.id.ObjectId.{ObjectId}
+use Rattle.fetch_base.specs.Distinct.{with_distinct}
 use Rattle.fetch_store.specs.Spread.{Nexts, next_to}
-use Rattle.fetch_store.specs.Stores.{id_cmp}
+use Rattle.fetch_base.specs.Id.{id_cmp}
 
 -- with all of these ids, each once
 abbrev pub with_each : List ObjectId → List ObjectId → List ObjectId

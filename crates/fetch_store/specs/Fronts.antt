@@ -1,8 +1,8 @@
 -- Ids, and the numbers that their first bytes write.
 use Rattle.std.specs.Prelude.{ℕ, ◌+◌, ◌<◌, List, take, length, get_or, All, Contains}
 use Rattle.std.specs.Int.{from_be_bytes, w64}
-use Rattle.fetch_store.specs.declared.id.ObjectId.{ObjectId}
-use Rattle.fetch_store.specs.Id.{bytes_of}
+use Rattle.fetch_base.specs.declared.id.ObjectId.{ObjectId}
+use Rattle.fetch_base.specs.Id.{bytes_of}
 use Rattle.fetch_store.specs.Objects.{Stored}
 use Rattle.fetch_store.specs.Stores.{Entries}
 

@@ -5,16 +5,16 @@ use Rattle.std.specs.List.{list_all, starts_with}
 use Rattle.std.specs.Option.{option_map}
 use Rattle.std.specs.Str.{bytes_eq}
 use Rattle.std.specs.Int.{is_in_range}
-use Rattle.fetch_store.specs.declared.id.Kind.{Kind}
-use Rattle.fetch_store.specs.declared.id.ObjectId.{ObjectId}
-use Rattle.fetch_store.specs.declared.object_kind.ObjectKind.{ObjectKind}
-use Rattle.fetch_store.specs.declared.object_kind.ObjectKind.TheVariants as objects
+use Rattle.fetch_base.specs.declared.id.Kind.{Kind}
+use Rattle.fetch_base.specs.declared.id.ObjectId.{ObjectId}
+use Rattle.fetch_base.specs.declared.object_kind.ObjectKind.{ObjectKind}
+use Rattle.fetch_base.specs.declared.object_kind.ObjectKind.TheVariants as objects
 use Rattle.fetch_store.specs.declared.grammar.Part.{Part}
 use Rattle.fetch_store.specs.declared.grammar.Part.TheVariants.{Tree, Parent, Author, Committer, Entry, Submodule, Tagged, TaggedKind}
 use Rattle.fetch_store.specs.declared.grammar.Expected.{Expected}
 use Rattle.fetch_store.specs.declared.grammar.Expected.TheVariants as expect
-use Rattle.fetch_store.specs.Id.{byte_len, id_of_bytes, id_in_hex}
-use Rattle.fetch_store.specs.Scan.{◌>>=◌, split_first, split_last, after, seconds_in, is_offset}
+use Rattle.fetch_base.specs.Id.{byte_len, id_of_bytes, id_in_hex}
+use Rattle.fetch_base.specs.Scan.{◌>>=◌, split_first, split_last, after, seconds_in, is_offset}
 
 -- a part, what is expected after it, and the bytes there
 pub record Step : Type 0 where

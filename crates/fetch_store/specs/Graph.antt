@@ -4,12 +4,14 @@ use Rattle.std.specs.Coded.{Coded, code_by, coded_ℕ, coded_list, coded_option,
 use Rattle.std.specs.List.{slice_get}
 use Rattle.std.specs.Option.{option_map_or}
 use Rattle.std.specs.FinMap as finmap
-use Rattle.fetch_store.specs.declared.id.ObjectId.{ObjectId}
-use Rattle.fetch_store.specs.declared.object_kind.ObjectKind.{ObjectKind}
-use Rattle.fetch_store.specs.declared.object_kind.ObjectKind.TheVariants.{Commit, Tag}
-use Rattle.fetch_store.specs.Objects.{Stored, links_of, parents_of, seconds_of, is_kind}
+use Rattle.fetch_base.specs.declared.id.ObjectId.{ObjectId}
+use Rattle.fetch_base.specs.declared.object_kind.ObjectKind.{ObjectKind}
+use Rattle.fetch_base.specs.declared.object_kind.ObjectKind.TheVariants.{Commit, Tag}
+use Rattle.fetch_store.specs.Objects.{Stored, links_of, parents_of, seconds_of}
+use Rattle.fetch_base.specs.Kinds.{is_kind}
 use Rattle.fetch_store.specs.Codes.{coded_id, coded_object_kind}
-use Rattle.fetch_store.specs.Stores.{id_cmp, ObjectMap}
+use Rattle.fetch_store.specs.Stores.{ObjectMap}
+use Rattle.fetch_base.specs.Id.{id_cmp}
 
 -- what a graph keeps of an object
 pub record Node : Type 0 where

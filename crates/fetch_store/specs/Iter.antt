@@ -1,6 +1,6 @@
 -- The objects of a store, one after the other.
 use Rattle.std.specs.Prelude.{List}
-use Rattle.fetch_store.specs.declared.id.ObjectId.{ObjectId}
+use Rattle.fetch_base.specs.declared.id.ObjectId.{ObjectId}
 use Rattle.fetch_store.specs.declared.object.ObjectRef.{ObjectRef}
 use Rattle.fetch_store.specs.declared.store_iter.StoreIter.{StoreIter}
 use Rattle.fetch_store.specs.Buffers.{entries_in}

@@ -1,6 +1,3 @@
-pub mod Id
-pub mod Hashing
-pub mod Scan
 pub mod Grammar
 pub mod Objects
 pub mod Steps
@@ -8,8 +5,6 @@ pub mod References
 pub mod Codes
 pub mod Stores
 pub mod Graph
-pub mod Lines
-pub mod Faults
 pub mod Borders
 pub mod Closed
 pub mod Honest
@@ -27,11 +22,3 @@ pub mod Texts
 pub mod TreeTexts
 pub mod CommitTexts
 pub mod Places
-pub mod Answers
-pub mod Calls
-pub mod Distinct
-pub mod Paths
-pub mod Trees
-pub mod TreeCodes
-pub mod FileCalls
-pub mod Digits

@@ -3,13 +3,13 @@
 use Rattle.std.specs.Prelude.{◌≡◌, ℕ, ◌^◌, ◌<◌, ◌≤◌, ◌⊎◌, List, [], ◌∷◌, ◌++◌, length, codes, IsTrue, false}
 use Rattle.std.specs.List.{flat_map}
 use Rattle.std.specs.Str.Parse.{digits_value}
-use Rattle.fetch_store.specs.declared.id.Kind.{Kind}
-use Rattle.fetch_store.specs.declared.object_kind.ObjectKind.{ObjectKind}
+use Rattle.fetch_base.specs.declared.id.Kind.{Kind}
+use Rattle.fetch_base.specs.declared.object_kind.ObjectKind.{ObjectKind}
 use Rattle.fetch_store.specs.declared.grammar.Expected.{Expected}
 use Rattle.fetch_store.specs.declared.grammar.Expected.TheVariants as expect
-use Rattle.fetch_store.specs.Hashing.{name_of}
-use Rattle.fetch_store.specs.Scan.{is_decimal, is_offset}
-use Rattle.fetch_store.specs.Lines.{IsWithout}
+use Rattle.fetch_base.specs.Hashing.{name_of}
+use Rattle.fetch_base.specs.Scan.{is_decimal, is_offset}
+use Rattle.fetch_base.specs.Lines.{IsWithout}
 use Rattle.fetch_store.specs.Objects.{first_of, may_end}
 use Rattle.fetch_store.specs.Texts.{IsHexId, line}
 use Rattle.fetch_store.specs.TreeTexts.{TreeEntry, IsEntry, entry_text}

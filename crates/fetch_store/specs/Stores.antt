@@ -2,24 +2,12 @@
 use Rattle.std.specs.Prelude.{◌≡◌, ℕ, Bool, false, not, List, [], ◌∷◌, length, Option, Some, None, if◌then◌else◌, refl}
 use Rattle.std.specs.Coded.{Coded, code_by, coded_ℕ, coded×}
 use Rattle.std.specs.List.{AllByRecursion, sum_by}
-use Rattle.std.specs.Ordering.{nat_cmp}
-use Rattle.std.specs.Cmp.Lexicographic.{slice_cmp}
 use Rattle.std.specs.FinMap as map
-use Rattle.std.specs.declared.cmp.Ordering.{Ordering}
-use Rattle.std.specs.declared.cmp.Ordering.TheVariants.{Less, Greater}
-use Rattle.fetch_store.specs.declared.id.Kind.{Kind}
-use Rattle.fetch_store.specs.declared.id.ObjectId.{ObjectId}
-use Rattle.fetch_store.specs.declared.id.ObjectId.TheVariants as ids
-use Rattle.fetch_store.specs.Id.{kind_of}
+use Rattle.fetch_base.specs.declared.id.Kind.{Kind}
+use Rattle.fetch_base.specs.declared.id.ObjectId.{ObjectId}
+use Rattle.fetch_base.specs.Id.{kind_of, id_cmp}
 use Rattle.fetch_store.specs.Objects.{Stored, has_same_text}
 use Rattle.fetch_store.specs.Codes.{coded_kind, coded_id, coded_stored}
-
--- shorter hashes first, and then byte by byte
-abbrev pub id_cmp : ObjectId → ObjectId → Ordering
-id_cmp (ids.Sha1 a) (ids.Sha1 b) = slice_cmp nat_cmp a b
-id_cmp (ids.Sha1 a) (ids.Sha256 b) = Less
-id_cmp (ids.Sha256 a) (ids.Sha1 b) = Greater
-id_cmp (ids.Sha256 a) (ids.Sha256 b) = slice_cmp nat_cmp a b
 
 -- stored objects by id
 abbrev pub ObjectMap : Type 0

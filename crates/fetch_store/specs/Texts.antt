@@ -2,12 +2,12 @@
 use Rattle.std.specs.Prelude.{◌≡◌, ℕ, ◌*◌, List, [], ◌∷◌, ◌++◌, length, map, codes, Some}
 use Rattle.std.specs.List.{AllPass}
 use Rattle.hex.specs.Hex.{is_hex_digit}
-use Rattle.fetch_store.specs.declared.id.Kind.{Kind}
-use Rattle.fetch_store.specs.declared.object_kind.ObjectKind.{ObjectKind}
-use Rattle.fetch_store.specs.declared.object_kind.ObjectKind.TheVariants.{Tag}
-use Rattle.fetch_store.specs.Hashing.{name_of}
+use Rattle.fetch_base.specs.declared.id.Kind.{Kind}
+use Rattle.fetch_base.specs.declared.object_kind.ObjectKind.{ObjectKind}
+use Rattle.fetch_base.specs.declared.object_kind.ObjectKind.TheVariants.{Tag}
+use Rattle.fetch_base.specs.Hashing.{name_of}
 use Rattle.fetch_store.specs.Graph.{target_of}
-use Rattle.fetch_store.specs.Id.{byte_len, id_in_hex}
+use Rattle.fetch_base.specs.Id.{byte_len, id_in_hex}
 use Rattle.fetch_store.specs.Objects.{IsObject, links_of}
 
 -- an id in hex digits of either case

@@ -4,11 +4,10 @@ ghost use Rattle.std.specs.Prelude.{◌≡◌, ◌↔◌, ◌++◌, not, filter,
 ghost use Rattle.std.specs.List.Sorted.{IsStrictlySortedBy};
 ghost use Rattle.std.specs.FinSet as set;
 ghost use Rattle.fetch_store.specs.Borders.{ids_of, set_of, merged};
-ghost use Rattle.fetch_store.specs.Stores.{id_cmp};
-ghost use Rattle.fetch_store.specs.declared.error.StoreError.TheVariants as errors;
+ghost use Rattle.fetch_base.specs.Id.{id_cmp};
+ghost use Rattle.fetch_base.specs.declared.error.StoreError.TheVariants as errors;
 
-use crate::error::{NoMemory, StoreError};
-use crate::id::ObjectId;
+use fetch_base::{NoMemory, ObjectId, StoreError};
 use std::alloc::Global;
 use std::marker::Model;
 
@@ -22,7 +21,7 @@ pub struct Border {
 impl Model for Border {
     ghost use Rattle.std.specs.List.Sorted.{IsStrictlySortedBy};
     ghost use Rattle.fetch_store.specs.Borders.{IdSet, coded_ids, set_of};
-    ghost use Rattle.fetch_store.specs.Stores.{id_cmp};
+    ghost use Rattle.fetch_base.specs.Id.{id_cmp};
 
     ghost Value = { IdSet };
 

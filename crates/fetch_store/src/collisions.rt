@@ -7,13 +7,13 @@ ghost use Rattle.std.specs.Option.{option_copied};
 ghost use Rattle.fetch_store.specs.Collisions.{HasDistinctIds};
 ghost use Rattle.fetch_store.specs.References.{seen};
 ghost use Rattle.fetch_store.specs.Stores as spec;
-ghost use Rattle.fetch_store.specs.Stores.{id_cmp, first_some, collision};
+ghost use Rattle.fetch_store.specs.Stores.{first_some, collision};
+ghost use Rattle.fetch_base.specs.Id.{id_cmp};
 
-use crate::error::NoMemory;
 use crate::fronts::are_apart;
-use crate::id::{ObjectId, same_id};
 use crate::object::{Object, ObjectRef};
 use crate::store::Store;
+use fetch_base::{NoMemory, ObjectId, same_id};
 use std::alloc::Global;
 use std::collections::BTreeMap;
 

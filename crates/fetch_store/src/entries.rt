@@ -5,12 +5,11 @@ ghost use Rattle.std.specs.Prelude.{IfSome, IsTrue, MatchOption, vec_len, vec_ca
 ghost use Rattle.std.specs.FinMap as map;
 ghost use Rattle.std.specs.declared.cmp.Ordering.TheVariants.{Less, Greater};
 ghost use Rattle.std.specs.Option.{option_copied};
-ghost use Rattle.fetch_store.specs.declared.id.ObjectId.{ObjectId};
+ghost use Rattle.fetch_base.specs.declared.id.ObjectId.{ObjectId};
 ghost use Rattle.fetch_store.specs.Entries.{IsInOrder, Surrounds, ends_above};
-ghost use Rattle.fetch_store.specs.Stores.{id_cmp};
+ghost use Rattle.fetch_base.specs.Id.{id_cmp};
 
-use crate::counter::Steps;
-use crate::id::ObjectId;
+use fetch_base::{ObjectId, Steps};
 use std::sync::ledger::Ledger;
 
 /// The value at an id. Where it doesn't stand between two places that are guessed, all entries are searched.

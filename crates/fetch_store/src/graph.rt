@@ -3,23 +3,20 @@
 ghost use Rattle.std.specs.Prelude.{◌≡◌, ◌++◌, None, IfOk, IfErr, OnOk, filter, not, map as listed};
 ghost use Rattle.std.specs.FinMap as map;
 ghost use Rattle.std.specs.Option.{option_copied};
-ghost use Rattle.fetch_store.specs.declared.error.StoreError.TheVariants as errors;
+ghost use Rattle.fetch_base.specs.declared.error.StoreError.TheVariants as errors;
 ghost use Rattle.fetch_store.specs.Graph.{node_of, graph_of};
 ghost use Rattle.fetch_store.specs.References.{seen};
 ghost use Rattle.fetch_store.specs.Stores.{AreOf, ObjectMap, add_all, collision};
-ghost use Rattle.fetch_store.specs.declared.id.Kind.{Kind};
+ghost use Rattle.fetch_base.specs.declared.id.Kind.{Kind};
 
-use crate::cloning::{TryClone, copy_slice};
 use crate::entries::{arrange, find_in_order, merge_by};
-use crate::error::{NoMemory, StoreError};
-use crate::id::ObjectId;
 use crate::object::{Object, ObjectRef, read_history};
-use crate::object_kind::ObjectKind;
 use crate::objects::{Objects, target};
 use crate::parent_ids::ParentIds;
 use crate::parents::Parents;
 use crate::starts::Starts;
 use crate::store::Store;
+use fetch_base::{NoMemory, ObjectId, ObjectKind, StoreError, TryClone, copy_slice};
 use std::alloc::Global;
 use std::marker::Model;
 

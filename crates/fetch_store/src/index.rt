@@ -5,12 +5,11 @@ ghost use Rattle.std.specs.FinMap as map;
 ghost use Rattle.std.specs.Option.{option_copied};
 ghost use Rattle.fetch_store.specs.Indexes.{IsIndex, IsIndexOf};
 ghost use Rattle.fetch_store.specs.References.{seen};
-ghost use Rattle.fetch_store.specs.Stores.{id_cmp};
+ghost use Rattle.fetch_base.specs.Id.{id_cmp};
 
-use crate::error::NoMemory;
 use crate::fronts::{find_by_front, places_by_front};
-use crate::id::ObjectId;
 use crate::object::{Object, ObjectRef};
+use fetch_base::{NoMemory, ObjectId};
 use std::alloc::Global;
 use std::collections::BTreeMap;
 

@@ -2,11 +2,9 @@
 
 mod closed;
 mod counts;
-mod pieces;
 mod reach;
 mod stores;
 mod texts;
-mod trees;
 
 pub use closed::{
     a_connected_pack_keeps_a_repository_closed, adding_keeps_what_is_stored,
@@ -14,7 +12,8 @@ pub use closed::{
     closed_is_nothing_missing,
 };
 pub use counts::distinct_stored_ids_are_no_more_than_objects;
-pub use pieces::{splits_exactly, splits_last_exactly};
+pub use fetch_base::laws::{splits_exactly, splits_last_exactly};
+pub use fetch_files::laws::nothing_stands_below_a_file;
 pub use reach::{
     reached_grows_with_the_store, reached_is_closed, reached_is_level_by_level,
     reached_is_reached_on,
@@ -26,4 +25,3 @@ pub use texts::{
     a_place_is_where_the_grammar_breaks, commits_are_texts, links_are_no_more_than_bytes,
     tags_are_texts, trees_are_texts,
 };
-pub use trees::nothing_stands_below_a_file;

@@ -1,77 +1,44 @@
-//! Git's objects: their ids, their grammar, and a store of them.
+//! Git's objects: their grammar, and a store of them.
 #![tactic(auto)]
 
-mod appending;
 mod border;
 mod buffer;
-mod calls;
-mod cloning;
 mod collisions;
-mod copying;
-mod counter;
-mod digits;
-mod distinct;
 mod entries;
-mod error;
-mod file_error;
-mod file_path;
-mod file_tree;
-mod files;
 mod fronts;
 mod grammar;
 mod graph;
-mod hashing;
-mod hex_digits;
-mod id;
 mod index;
 mod iter;
 pub mod laws;
-mod list;
-mod memory_files;
 mod missing;
-mod node;
 mod object;
-mod object_kind;
 mod objects;
 mod parent_ids;
 mod parents;
 mod reach;
-mod scan;
 mod span;
 mod starts;
 mod store;
 mod store_iter;
 mod take;
-mod text;
 mod walk;
 
-pub use appending::{append_hex, append_number};
 pub use border::{Border, ascending};
-pub use calls::Calls;
-pub use cloning::{TryClone, copy_slice};
-pub use copying::copy_from;
-pub use counter::Steps;
-pub use digits::{decimal, is_decimal};
-pub use distinct::{Distinct, Keyed};
-pub use error::{NoMemory, StoreError};
-pub use file_error::{Failed, FileError};
-pub use files::Files;
+pub use fetch_base::{
+    Calls, Distinct, Failed, Keyed, Kind, List, NoMemory, ObjectId, ObjectKind, Steps, StoreError,
+    Text, TryClone, after, append_hex, append_number, copy_from, copy_slice, decimal, digest,
+    id_of, is_decimal, same_id, split_first, split_last,
+};
+pub use fetch_files::{FileError, Files, MemoryFiles, Node, TreeNode};
 pub use fronts::are_apart;
 pub use graph::Graph;
-pub use hashing::{digest, id_of};
-pub use id::{Kind, ObjectId, same_id};
-pub use list::List;
-pub use memory_files::MemoryFiles;
 pub use missing::{Missing, first_missing};
-pub use node::{Node, TreeNode};
 pub use object::{Links, Object, ObjectRef};
-pub use object_kind::ObjectKind;
 pub use objects::Objects;
 pub use parents::Parents;
 pub use reach::reached;
-pub use scan::{after, split_first, split_last};
 pub use store::Store;
 pub use store_iter::StoreIter;
 pub use take::{Take, first_missing_of_take};
-pub use text::Text;
 pub use walk::{Next, spread};

@@ -9,10 +9,9 @@ ghost use Rattle.fetch_store.specs.References.{seen, ids_left};
 ghost use Rattle.fetch_store.specs.Stores.{ObjectMap};
 
 use crate::border::Border;
-use crate::error::StoreError;
-use crate::id::ObjectId;
 use crate::object::{Links, ObjectRef};
 use crate::store::Store;
+use fetch_base::{ObjectId, StoreError};
 
 /// A link, and what it leads to.
 #[derive(Clone, Copy, Debug, PartialEq, Eq)]

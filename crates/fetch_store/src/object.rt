@@ -5,13 +5,11 @@ ghost use Rattle.std.specs.Iterator.{YieldsFirst, item_count};
 ghost use Rattle.std.specs.Option.{option_to_list};
 ghost use Rattle.fetch_store.specs.Objects as spec;
 ghost use Rattle.fetch_store.specs.References.{seen, ids_left, wanted_id};
-ghost use Rattle.fetch_store.specs.declared.error.StoreError.TheVariants as errors;
+ghost use Rattle.fetch_base.specs.declared.error.StoreError.TheVariants as errors;
 
-use crate::error::{NoMemory, StoreError};
 use crate::grammar::{Expected, Part, part_at};
-use crate::id::{Kind, ObjectId};
-use crate::object_kind::ObjectKind;
 use crate::parent_ids::ParentIds;
+use fetch_base::{Kind, NoMemory, ObjectId, ObjectKind, StoreError, TryClone};
 use std::alloc::Global;
 use std::marker::Model;
 
@@ -92,6 +90,12 @@ impl Object {
             kind: self.kind,
             bytes: self.bytes.as_slice(),
         }
+    }
+}
+
+impl TryClone for Object {
+    fn try_clone(&self) -> Result<Object, NoMemory> {
+        self.try_clone()
     }
 }
 

@@ -8,11 +8,10 @@ ghost use Rattle.fetch_store.specs.Graph.{Graph, graph_of, is_commit_at, target_
 ghost use Rattle.fetch_store.specs.Objects as spec;
 ghost use Rattle.fetch_store.specs.References.{seen, parents_left};
 
-use crate::id::ObjectId;
 use crate::object::ObjectRef;
-use crate::object_kind::ObjectKind;
 use crate::parents::Parents;
 use crate::store::Store;
+use fetch_base::{ObjectId, ObjectKind};
 
 /// Objects by id, however they are kept.
 pub trait Objects {

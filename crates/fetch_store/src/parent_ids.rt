@@ -3,10 +3,8 @@
 ghost use Rattle.std.specs.Prelude.{◌≡◌, ◌∷◌, ◌++◌, [], IfOk, OnOk, slice_get};
 ghost use Rattle.fetch_store.specs.References.{parents_left};
 
-use crate::cloning::TryClone;
-use crate::error::NoMemory;
-use crate::id::ObjectId;
 use crate::parents::Parents;
+use fetch_base::{NoMemory, ObjectId, TryClone};
 use std::alloc::Global;
 use std::marker::Model;
 
@@ -21,7 +19,7 @@ impl Model for ParentIds {
     ghost use Rattle.std.specs.Prelude.{◌≡◌, List, ◌++◌, [], None};
     ghost use Rattle.std.specs.Coded.{coded_list};
     ghost use Rattle.std.specs.Option.{option_to_list};
-    ghost use Rattle.fetch_store.specs.declared.id.ObjectId.{ObjectId};
+    ghost use Rattle.fetch_base.specs.declared.id.ObjectId.{ObjectId};
     ghost use Rattle.fetch_store.specs.Codes.{coded_id};
 
     ghost Value = { List ObjectId };

@@ -4,8 +4,8 @@ ghost use Rattle.std.specs.Prelude.{◌≡◌, ◌∷◌, [], MatchOption};
 ghost use Rattle.std.specs.Iterator.{YieldsFirst, item_count};
 ghost use Rattle.fetch_store.specs.References.{parents_left};
 
-use crate::id::ObjectId;
 use crate::object::Links;
+use fetch_base::ObjectId;
 
 /// The ids of a commit's parents, in order.
 #[derive(Debug, Drop)]

@@ -4,22 +4,19 @@ ghost use Rattle.std.specs.Prelude.{◌≡◌, ◌↔◌, ◌+◌, ◌++◌, ◌
 ghost use Rattle.std.specs.Prelude.{filter, get_or, length, not, set, sum_by, IfOk, OnOk, Contains};
 ghost use Rattle.std.specs.FinMap as map;
 ghost use Rattle.std.specs.List.Sorted.{IsStrictlySortedBy};
-ghost use Rattle.fetch_store.specs.declared.id.ObjectId.{ObjectId as Id};
+ghost use Rattle.fetch_base.specs.declared.id.ObjectId.{ObjectId as Id};
 ghost use Rattle.fetch_store.specs.Closed.{Reached, holding, links_at};
 ghost use Rattle.fetch_store.specs.Found.{with_each};
 ghost use Rattle.fetch_store.specs.Marks.{AreMarked, ids_at, is_among};
 ghost use Rattle.fetch_store.specs.References.{ids_left};
 ghost use Rattle.fetch_store.specs.Spread.{next_to, nexts_in};
-ghost use Rattle.fetch_store.specs.Stores.{id_cmp};
+ghost use Rattle.fetch_base.specs.Id.{id_cmp};
 
 use crate::border::Border;
-use crate::counter::Steps;
-use crate::error::NoMemory;
-use crate::id::ObjectId;
-use crate::list::List;
 use crate::missing::links_within;
 use crate::object::Links;
 use crate::store::Store;
+use fetch_base::{List, NoMemory, ObjectId, Steps};
 use std::alloc::Global;
 use std::sync::ledger::Ledger;
 

@@ -1,6 +1,6 @@
 //! Where an object stands in a buffer.
 
-use crate::object_kind::ObjectKind;
+use fetch_base::ObjectKind;
 
 /// An object's kind, and its bytes' place in a buffer.
 #[derive(Clone, Copy, Debug)]

@@ -1,7 +1,7 @@
 //! Guesses at where ids stand in an ascending list.
 
 use crate::fronts::front;
-use crate::id::ObjectId;
+use fetch_base::ObjectId;
 use std::alloc::Global;
 
 /// How many ids of an ascending list begin below each number that so many first bits write, so that a look-up reads a few

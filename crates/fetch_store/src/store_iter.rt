@@ -3,8 +3,8 @@
 ghost use Rattle.std.specs.Prelude.{All};
 ghost use Rattle.fetch_store.specs.Buffers.{IsLent};
 
-use crate::id::{Kind, ObjectId};
 use crate::span::Span;
+use fetch_base::{Kind, ObjectId};
 
 /// The ids of a store with their objects, lent, by ascending id.
 #[derive(Drop)]

@@ -2,16 +2,12 @@
 
 ghost use Rattle.std.specs.Prelude.{◌≡◌, ◌↔◌, ◌+◌, ◌++◌, ◌≤◌, ◌<◌, length, drop, is_some, sum_by, IsTrue, IfOk, IfSome, OnOk, Contains};
 ghost use Rattle.std.specs.List.Sorted.{IsStrictlySortedBy};
-ghost use Rattle.fetch_store.specs.declared.id.ObjectId.{ObjectId};
+ghost use Rattle.fetch_base.specs.declared.id.ObjectId.{ObjectId};
 ghost use Rattle.fetch_store.specs.Found.{there, with_each, with_next};
 ghost use Rattle.fetch_store.specs.Spread.{Nexts, IsWithin, looked_at, next_to};
-ghost use Rattle.fetch_store.specs.Stores.{id_cmp};
+ghost use Rattle.fetch_base.specs.Id.{id_cmp};
 
-use crate::counter::Steps;
-use crate::distinct::{Distinct, Keyed};
-use crate::error::NoMemory;
-use crate::id::ObjectId;
-use crate::list::List;
+use fetch_base::{Distinct, List, NoMemory, ObjectId, Steps};
 use std::alloc::Global;
 use std::sync::ledger::Ledger;
 
@@ -28,14 +24,6 @@ pub trait Next {
     /// then.
     fn append_next(&self, id: &ObjectId, into: &mut Vec<ObjectId>) -> Result<(), NoMemory>
         ensures { OnOk result (into.new.items ≡ into.old.items ++ next_to (nexts self.now) id.now) };
-}
-
-impl Keyed<ObjectId> for ObjectId {
-    ghost key_of = { λ id. id };
-
-    fn key(&self) -> Result<ObjectId, NoMemory> {
-        Ok(*self)
-    }
 }
 
 /// The ids to which a path leads from one of the starts, of no more steps than the limit, if there is one: each once,

@@ -7,12 +7,12 @@ use Rattle.std.specs.Cmp.{tied_itself, Equal-is}
 use Rattle.std.specs.Option.{option_and_then}
 use Rattle.std.specs.FinMap.{get, len}
 use Rattle.std.proofs.lemmas.Bool.{leb-true, le-leb}
-use Rattle.fetch_store.proofs.Ids.{id_cmp_total, id_cmp_exact}
-use Rattle.fetch_store.specs.declared.id.ObjectId.{ObjectId}
-use Rattle.fetch_store.specs.declared.object_kind.ObjectKind.TheVariants.{Commit}
-use Rattle.fetch_store.specs.Objects.{is_kind}
+use Rattle.fetch_base.proofs.Ids.{id_cmp_total, id_cmp_exact}
+use Rattle.fetch_base.specs.declared.id.ObjectId.{ObjectId}
+use Rattle.fetch_base.specs.declared.object_kind.ObjectKind.TheVariants.{Commit}
+use Rattle.fetch_base.specs.Kinds.{is_kind}
 use Rattle.fetch_store.specs.Graph.{Graph, Node}
-use Rattle.fetch_store.specs.Stores.{id_cmp}
+use Rattle.fetch_base.specs.Id.{id_cmp}
 use Rattle.fetch_update.specs.Dated.{IsCommit, HasDatedPath, LeadsOn, IsLinked, IsPathAbove, commit_at, parents_at, seconds_at}
 use Rattle.fetch_update.specs.Ahead.{is_ahead, is_dated, leads}
 use Rattle.fetch_store.proofs.Pigeons.{AreDistinct, AreStored, no_more}

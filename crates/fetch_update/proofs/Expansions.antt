@@ -5,10 +5,10 @@ use Rattle.std.specs.Option.{option_and_then, option_map_or}
 use Rattle.std.specs.FinMap.{get}
 use Rattle.std.proofs.lemmas.List.{append-nil}
 use Rattle.std.proofs.lemmas.List.Elements.{Contains-append_cases, Contains-append_right}
-use Rattle.fetch_store.specs.declared.id.ObjectId.{ObjectId}
-use Rattle.fetch_store.specs.declared.object_kind.ObjectKind.TheVariants.{Commit}
+use Rattle.fetch_base.specs.declared.id.ObjectId.{ObjectId}
+use Rattle.fetch_base.specs.declared.object_kind.ObjectKind.TheVariants.{Commit}
 use Rattle.fetch_store.specs.Graph.{Graph, Node}
-use Rattle.fetch_store.specs.Objects.{is_kind}
+use Rattle.fetch_base.specs.Kinds.{is_kind}
 use Rattle.fetch_update.specs.Dated.{IsCommit, parents_at}
 use Rattle.fetch_update.specs.Walks.{State, Grows}
 use Rattle.fetch_update.proofs.Seen.{Contains-one, Contains-first}

@@ -5,7 +5,7 @@ use Rattle.std.specs.Option.{option_map, option_map_or}
 use Rattle.std.specs.Prelude.{is_some, unwrap_or, MatchOption}
 use Rattle.std.specs.FinMap.{entries}
 use Rattle.std.proofs.lemmas.List.Sorted.{IsPermutation-sym, Contains-permutation, length_permutation, sum_by_popped}
-use Rattle.fetch_store.specs.declared.id.ObjectId.{ObjectId}
+use Rattle.fetch_base.specs.declared.id.ObjectId.{ObjectId}
 use Rattle.fetch_store.specs.Graph.{Graph, Node}
 use Rattle.fetch_update.specs.Dated.{IsCommit, commit_at, parents_at, seconds_in, seconds_at, LeadsOn, IsLinked, IsPathAbove, commit_count, link_count}
 use Rattle.fetch_update.specs.Walks.{State, has, IsDated, IsWaiting, Grows, Pops, IsDone, cost_unseen, cost_waiting, room, work}

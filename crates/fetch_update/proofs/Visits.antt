@@ -5,11 +5,11 @@ use Rattle.std.specs.Option.{option_map, option_and_then, option_map_or}
 use Rattle.std.specs.FinMap.{get, entries, find, get-entries}
 use Rattle.std.proofs.lemmas.Bool.{cases_lt}
 use Rattle.std.proofs.lemmas.List.Sorted.{IsPermutation-sym, Contains-permutation, length_permutation, sum_by_pushed}
-use Rattle.fetch_store.specs.declared.id.ObjectId.{ObjectId}
-use Rattle.fetch_store.specs.declared.object_kind.ObjectKind.TheVariants.{Commit}
+use Rattle.fetch_base.specs.declared.id.ObjectId.{ObjectId}
+use Rattle.fetch_base.specs.declared.object_kind.ObjectKind.TheVariants.{Commit}
 use Rattle.fetch_store.specs.Graph.{Graph, Node}
-use Rattle.fetch_store.specs.Objects.{is_kind}
-use Rattle.fetch_store.specs.Stores.{id_cmp}
+use Rattle.fetch_base.specs.Kinds.{is_kind}
+use Rattle.fetch_base.specs.Id.{id_cmp}
 use Rattle.fetch_update.specs.Dated.{IsCommit, commit_at, parents_at, seconds_in, seconds_at}
 use Rattle.fetch_update.specs.Walks.{State, has, IsDated, IsWaiting, Grows, Keeps, cost, cost_waiting, room, work}
 use Rattle.fetch_update.proofs.Seen.{Added, added_keeps, added_cases, unseen_mono, unseen_less, Contains-first, Contains-later, Contains-cases}

@@ -6,7 +6,7 @@ use Rattle.std.specs.List.{AllByRecursion, cons_option, position_from, slice_get
 use Rattle.std.specs.Option.{option_map}
 use Rattle.std.proofs.lemmas.Iterator.Adapters.{position_from-zero}
 use Rattle.std.proofs.lemmas.Slice.Eq.{bytes_eq-Decides}
-use Rattle.fetch_store.specs.declared.id.ObjectId.{ObjectId}
+use Rattle.fetch_base.specs.declared.id.ObjectId.{ObjectId}
 use Rattle.fetch_specs.specs.Specs.{Spec}
 use Rattle.fetch_refs.specs.Expectations.{expected_of, holds as expectation_holds, fails, refusal_of, found_by}
 use Rattle.fetch_refs.specs.Names.{Names}

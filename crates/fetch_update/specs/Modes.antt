@@ -4,8 +4,8 @@ use Rattle.std.specs.Fmt.{comma_space}
 use Rattle.std.specs.List.{join_by}
 use Rattle.std.specs.Str.{is_utf8}
 use Rattle.hex.specs.Hex.{encode_lower}
-use Rattle.fetch_store.specs.Id.{bytes_of}
-use Rattle.fetch_store.specs.declared.id.ObjectId.{ObjectId}
+use Rattle.fetch_base.specs.Id.{bytes_of}
+use Rattle.fetch_base.specs.declared.id.ObjectId.{ObjectId}
 use Rattle.fetch_update.specs.declared.mode.Mode.{Mode}
 use Rattle.fetch_update.specs.declared.mode.Mode.TheVariants as modes
 

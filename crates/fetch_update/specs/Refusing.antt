@@ -1,7 +1,7 @@
 -- Which mappings refuse the whole update, and with which error, in a dry run too. Each row is a record of its conditions.
 use Rattle.std.specs.Prelude.{◌≡◌, ◌≢◌, ◌⊎◌, ◌++◌, ◌∷◌, ℕ, false, List, Some, None, Err, IsTrue, Contains}
 use Rattle.std.specs.FinMap as finmap
-use Rattle.fetch_store.specs.declared.id.ObjectId.{ObjectId}
+use Rattle.fetch_base.specs.declared.id.ObjectId.{ObjectId}
 use Rattle.fetch_specs.specs.Names.{is_full_name}
 use Rattle.fetch_specs.specs.Specs.{Spec}
 use Rattle.fetch_refs.specs.Peeled.{peeled}

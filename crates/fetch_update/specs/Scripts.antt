@@ -2,8 +2,8 @@
 use Rattle.std.specs.Prelude.{ℕ, List, Option, Some, None, nat_eq, nat_lt, length}
 use Rattle.std.specs.List.{find}
 use Rattle.std.specs.Option.{option_and_then, option_map}
-use Rattle.fetch_store.specs.Calls.{one_more}
-use Rattle.fetch_store.specs.Faults.{Faults}
+use Rattle.fetch_base.specs.Calls.{one_more}
+use Rattle.fetch_base.specs.Faults.{Faults}
 use Rattle.fetch_update.specs.declared.worktrees.Worktree.{Worktree}
 use Rattle.fetch_update.specs.declared.worktrees.WorktreeFault.{WorktreeFault}
 use Rattle.fetch_update.specs.declared.worktrees.WorktreeFault.TheVariants.{Listing, OpenRepo, FollowSymref, NoMemory}

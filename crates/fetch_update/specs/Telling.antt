@@ -1,7 +1,7 @@
 -- What updates tell of their edits: what the reflogs say, and how the kind of a reference changes.
 use Rattle.std.specs.Prelude.{◌≡◌, ℕ, false, List, Option, Some, None, IsTrue, Contains}
 use Rattle.std.specs.FinMap as finmap
-use Rattle.fetch_store.specs.declared.id.ObjectId.{ObjectId}
+use Rattle.fetch_base.specs.declared.id.ObjectId.{ObjectId}
 use Rattle.fetch_specs.specs.Specs.{Spec}
 use Rattle.fetch_refs.specs.declared.edit.Change.{Change}
 use Rattle.fetch_refs.specs.declared.edit.Change.TheVariants.{Update as Writes, Delete}

@@ -5,11 +5,11 @@ use Rattle.std.specs.List.Sorted.{IsPermutation}
 use Rattle.std.specs.BinaryHeap.{heap_items}
 use Rattle.std.specs.FinMap.{entries}
 use Rattle.std.specs.Ordering.{eq_by_cmp}
-use Rattle.fetch_store.specs.declared.id.ObjectId.{ObjectId}
-use Rattle.fetch_store.specs.declared.object_kind.ObjectKind.TheVariants.{Commit}
+use Rattle.fetch_base.specs.declared.id.ObjectId.{ObjectId}
+use Rattle.fetch_base.specs.declared.object_kind.ObjectKind.TheVariants.{Commit}
 use Rattle.fetch_store.specs.Graph.{Graph, Node}
-use Rattle.fetch_store.specs.Objects.{is_kind}
-use Rattle.fetch_store.specs.Stores.{id_cmp}
+use Rattle.fetch_base.specs.Kinds.{is_kind}
+use Rattle.fetch_base.specs.Id.{id_cmp}
 use Rattle.fetch_update.specs.declared.walk.Walk.{Walk}
 use Rattle.fetch_update.specs.Dated.{IsCommit, parents_at, seconds_at}
 

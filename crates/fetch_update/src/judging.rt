@@ -3,7 +3,7 @@
 ghost use Rattle.std.specs.Prelude.{◌≡◌, IfOk, OnErr, MatchOption, true, false, Err};
 ghost use Rattle.std.specs.Option.{option_copied};
 ghost use Rattle.std.specs.FinMap as map;
-ghost use Rattle.fetch_store.specs.Answers.{AnswersUnless};
+ghost use Rattle.fetch_base.specs.Answers.{AnswersUnless};
 ghost use Rattle.fetch_refs.specs.Peeled.{peeled};
 ghost use Rattle.fetch_refs.specs.Targets.{seen};
 ghost use Rattle.fetch_specs.specs.Names.{is_full_name};
@@ -228,7 +228,7 @@ fn unborn_mode(found: TargetRef<'_>, target: Option<&[u8]>) -> Mode
 }
 
 /// A reference that stands for an id.
-#[tactic(auto, using(fetch_store::proofs::Orders::eq_is), unfolding(crate::specs::Policy::at_id, crate::specs::Policy::at_stored, crate::specs::Policy::no_update, crate::specs::Policy::updating_tag, crate::specs::Policy::guessed, crate::specs::Policy::fast_forward, crate::specs::Policy::forced_update))]
+#[tactic(auto, using(fetch_base::proofs::Orders::eq_is), unfolding(crate::specs::Policy::at_id, crate::specs::Policy::at_stored, crate::specs::Policy::no_update, crate::specs::Policy::updating_tag, crate::specs::Policy::guessed, crate::specs::Policy::fast_forward, crate::specs::Policy::forced_update))]
 fn at_id<O: Objects>(
     judge: &Judge<'_>,
     objects: &O,

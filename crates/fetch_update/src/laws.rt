@@ -2,9 +2,9 @@
 
 ghost use Rattle.std.specs.Prelude.{◌≡◌, ◌≢◌, ◌↔◌, ℕ, List, Some, None, Ok, Err, IfOk, IsTrue, Contains, true, false};
 ghost use Rattle.std.specs.FinMap.{get};
-ghost use Rattle.fetch_store.specs.Answers.{AnswersUnless};
+ghost use Rattle.fetch_base.specs.Answers.{AnswersUnless};
 ghost use Rattle.fetch_store.specs.Graph.{Graph};
-ghost use Rattle.fetch_store.specs.declared.id.ObjectId.{ObjectId};
+ghost use Rattle.fetch_base.specs.declared.id.ObjectId.{ObjectId};
 ghost use Rattle.fetch_specs.specs.Specs.{Spec};
 ghost use Rattle.fetch_refs.specs.Expectations.{refusal_of};
 ghost use Rattle.fetch_refs.specs.declared.edit.RefEdit.{RefEdit};

@@ -1,8 +1,8 @@
 //! Worktrees that follow a script.
 
 ghost use Rattle.std.specs.Prelude.{◌≡◌, ◌<◌, Some, IsSome, IfOk, IfSome, IsErrOf, IsOkUnless, MatchOption, OnOk, Err, length, nat_lt};
-ghost use Rattle.fetch_store.specs.Calls.{one_more};
-ghost use Rattle.fetch_store.specs.Faults.{Counts, Rose};
+ghost use Rattle.fetch_base.specs.Calls.{one_more};
+ghost use Rattle.fetch_base.specs.Faults.{Counts, Rose};
 ghost use Rattle.fetch_update.specs.Scripts.{listed_for, fault_at, after_call, faults_of};
 ghost use Rattle.fetch_update.specs.declared.worktrees.WorktreeFault.TheVariants as errors;
 

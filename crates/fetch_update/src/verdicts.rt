@@ -1,7 +1,7 @@
 //! What becomes of each mapping.
 
 ghost use Rattle.std.specs.Prelude.{◌≡◌};
-ghost use Rattle.fetch_store.specs.Answers.{AnswersBy};
+ghost use Rattle.fetch_base.specs.Answers.{AnswersBy};
 ghost use Rattle.fetch_update.specs.Outcomes.{verdicts_from};
 ghost use Rattle.fetch_update.specs.Policy.{is_memory, policy_of};
 

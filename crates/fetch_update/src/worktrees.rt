@@ -1,8 +1,8 @@
 //! The worktrees of a repository.
 
 ghost use Rattle.std.specs.Prelude.{◌≡◌, ℕ, IfOk, IfSome, IsErrOf, None, List as Items, Option};
-ghost use Rattle.fetch_store.specs.Calls.{one_more};
-ghost use Rattle.fetch_store.specs.Faults.{Faults, Rose, Counts};
+ghost use Rattle.fetch_base.specs.Calls.{one_more};
+ghost use Rattle.fetch_base.specs.Faults.{Faults, Rose, Counts};
 
 use fetch_specs::FullName;
 use fetch_store::{NoMemory, Text};

@@ -1,7 +1,7 @@
 //! Edits of references.
 
 ghost use Rattle.std.specs.Prelude.{◌≡◌, IfOk, Ok, Err};
-ghost use Rattle.fetch_store.specs.Answers.{AnswersUnless};
+ghost use Rattle.fetch_base.specs.Answers.{AnswersUnless};
 ghost use Rattle.fetch_refs.specs.Targets.{seen};
 ghost use Rattle.fetch_update.specs.Policy as spec;
 ghost use Rattle.fetch_update.specs.Policy.{is_memory, place_in_code, value_in_code};

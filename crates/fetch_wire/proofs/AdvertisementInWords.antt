@@ -7,11 +7,11 @@ use Rattle.std.proofs.lemmas.List.{append-nil}
 use Rattle.std.proofs.lemmas.List.Elements.{All-head, All-tail}
 use Rattle.std.proofs.lemmas.Slice.Eq.{bytes_eq-Decides}
 use Rattle.hex.specs.Hex.{is_hex_digit}
-use Rattle.fetch_store.specs.Id.{id_in_hex}
-use Rattle.fetch_store.specs.Lines.{IsWithout}
-use Rattle.fetch_store.specs.declared.id.Kind.{Kind}
-use Rattle.fetch_store.specs.declared.id.ObjectId.{ObjectId}
-use Rattle.fetch_store.proofs.LineLaws.{splits}
+use Rattle.fetch_base.specs.Id.{id_in_hex}
+use Rattle.fetch_base.specs.Lines.{IsWithout}
+use Rattle.fetch_base.specs.declared.id.Kind.{Kind}
+use Rattle.fetch_base.specs.declared.id.ObjectId.{ObjectId}
+use Rattle.fetch_base.proofs.LineLaws.{splits}
 use Rattle.fetch_wire.specs.declared.replies.reply.ParsedReply.{ParsedReply}
 use Rattle.fetch_wire.specs.declared.replies.reply.ParsedReply.TheVariants as tolds
 use Rattle.fetch_wire.specs.declared.greetings.handshake.Capability.{Capability}

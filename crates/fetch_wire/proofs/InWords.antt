@@ -10,14 +10,13 @@ use Rattle.std.proofs.lemmas.List.Elements.{All-nil, All-cons, All-head, All-tai
 use Rattle.std.proofs.lemmas.Slice.Eq.{bytes_eq-Decides}
 use Rattle.hex.specs.Hex.{decode_sized, is_hex_digit}
 use Rattle.hex.proofs.HexLemmas.{IsOk-decode_sized}
-use Rattle.fetch_store.specs.Id.{byte_len, id_of_bytes, id_in_hex}
-use Rattle.fetch_store.specs.Lines.{IsWithout}
-use Rattle.fetch_store.specs.Scan.{after}
-use Rattle.fetch_store.specs.declared.id.Kind.{Kind}
-use Rattle.fetch_store.specs.declared.id.ObjectId.{ObjectId}
-use Rattle.fetch_store.proofs.CommitTexts.{both_without}
-use Rattle.fetch_store.proofs.LineLaws.{splits}
-use Rattle.fetch_store.proofs.TagTexts.{after_of}
+use Rattle.fetch_base.specs.Id.{byte_len, id_of_bytes, id_in_hex}
+use Rattle.fetch_base.specs.Lines.{IsWithout}
+use Rattle.fetch_base.specs.Scan.{after}
+use Rattle.fetch_base.specs.declared.id.Kind.{Kind}
+use Rattle.fetch_base.specs.declared.id.ObjectId.{ObjectId}
+use Rattle.fetch_base.proofs.Words.{both_without, after_of}
+use Rattle.fetch_base.proofs.LineLaws.{splits}
 use Rattle.fetch_wire.specs.declared.replies.reply.ReplyContext.{ReplyContext}
 use Rattle.fetch_wire.specs.declared.replies.reply.ReplyKind.TheVariants.{Reply}
 use Rattle.fetch_wire.specs.declared.replies.reply.ParsedReply.{ParsedReply}

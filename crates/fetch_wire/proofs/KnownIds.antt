@@ -7,12 +7,12 @@ use Rattle.std.specs.Cmp.{eq_by_cmp_equiv}
 use Rattle.std.specs.Ordering.{eq_by_cmp}
 use Rattle.std.specs.declared.cmp.Ordering.{Ordering}
 use Rattle.std.proofs.lemmas.List.{take_more}
-use Rattle.fetch_store.specs.Distinct.{with_distinct}
-use Rattle.fetch_store.specs.Stores.{id_cmp}
-use Rattle.fetch_store.specs.contracts.id.ObjectIdOrd.TheImpl as order
-use Rattle.fetch_store.specs.declared.id.ObjectId.{ObjectId}
-use Rattle.fetch_store.proofs.Ids.{id_cmp_total}
-use Rattle.fetch_store.proofs.Orders.{cmp_is}
+use Rattle.fetch_base.specs.Distinct.{with_distinct}
+use Rattle.fetch_base.specs.Id.{id_cmp}
+use Rattle.fetch_base.specs.contracts.id.ObjectIdOrd.TheImpl as order
+use Rattle.fetch_base.specs.declared.id.ObjectId.{ObjectId}
+use Rattle.fetch_base.proofs.Ids.{id_cmp_total}
+use Rattle.fetch_base.proofs.Orders.{cmp_is}
 use Rattle.fetch_wire.specs.KnownIds.{HasIds, each_behind, each_once, has_id, with_id}
 
 abbrev Ids : Type 0

@@ -9,13 +9,13 @@ use Rattle.std.specs.Str.{bytes_eq}
 use Rattle.std.specs.declared.cmp.Ordering.{Ordering}
 use Rattle.std.proofs.lemmas.List.Folds.{list_any-append}
 use Rattle.std.proofs.lemmas.Slice.Eq.{bytes_eq-Decides}
-use Rattle.fetch_store.specs.Hashing.{digest}
-use Rattle.fetch_store.specs.Stores.{id_cmp}
-use Rattle.fetch_store.specs.contracts.id.ObjectIdOrd.TheImpl as order
-use Rattle.fetch_store.specs.declared.id.Kind.TheVariants.{Sha256}
-use Rattle.fetch_store.specs.declared.id.ObjectId.{ObjectId}
-use Rattle.fetch_store.proofs.Ids.{id_cmp_total}
-use Rattle.fetch_store.proofs.Orders.{cmp_is}
+use Rattle.fetch_base.specs.Hashing.{digest}
+use Rattle.fetch_base.specs.Id.{id_cmp}
+use Rattle.fetch_base.specs.contracts.id.ObjectIdOrd.TheImpl as order
+use Rattle.fetch_base.specs.declared.id.Kind.TheVariants.{Sha256}
+use Rattle.fetch_base.specs.declared.id.ObjectId.{ObjectId}
+use Rattle.fetch_base.proofs.Ids.{id_cmp_total}
+use Rattle.fetch_base.proofs.Orders.{cmp_is}
 use Rattle.fetch_wire.specs.declared.listings.reference.Ref.{Ref}
 use Rattle.fetch_wire.specs.Listings.{HasDigests, is_listed}
 use Rattle.fetch_wire.specs.References.{name_in}

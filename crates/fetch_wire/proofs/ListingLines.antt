@@ -6,14 +6,13 @@ use Rattle.std.specs.Option.{option_map, option_and_then}
 use Rattle.std.proofs.lemmas.List.{append-nil}
 use Rattle.std.proofs.lemmas.List.Elements.{All-nil, All-cons, All-head, All-tail}
 use Rattle.hex.specs.Hex.{encode_lower}
-use Rattle.fetch_store.specs.Id.{bytes_of}
-use Rattle.fetch_store.specs.Lines.{IsWithout}
-use Rattle.fetch_store.specs.Scan.{after}
-use Rattle.fetch_store.specs.declared.id.Kind.{Kind}
-use Rattle.fetch_store.specs.declared.id.ObjectId.{ObjectId}
-use Rattle.fetch_store.proofs.LineLaws.{splits}
-use Rattle.fetch_store.proofs.CommitTexts.{both_without}
-use Rattle.fetch_store.proofs.TagTexts.{after_of}
+use Rattle.fetch_base.specs.Id.{bytes_of}
+use Rattle.fetch_base.specs.Lines.{IsWithout}
+use Rattle.fetch_base.specs.Scan.{after}
+use Rattle.fetch_base.specs.declared.id.Kind.{Kind}
+use Rattle.fetch_base.specs.declared.id.ObjectId.{ObjectId}
+use Rattle.fetch_base.proofs.LineLaws.{splits}
+use Rattle.fetch_base.proofs.Words.{both_without, after_of}
 use Rattle.fetch_wire.specs.declared.replies.reply.ReplyKind.TheVariants as awaits
 use Rattle.fetch_wire.specs.declared.replies.reply.ParsedReply.TheVariants as told
 use Rattle.fetch_wire.specs.declared.lines.line.Line.TheVariants.{Flush}

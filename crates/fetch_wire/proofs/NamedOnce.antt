@@ -3,9 +3,9 @@ use Rattle.std.proofs.Common.{◌≡◌, ℕ, suc, Bool, true, false, ◌||◌, 
 use Rattle.std.specs.Prelude.{⊤}
 use Rattle.std.specs.List.{AllByRecursion, IsDistinct}
 use Rattle.std.specs.Option.{option_or}
-use Rattle.fetch_store.specs.Scan.{split_first}
-use Rattle.fetch_store.specs.declared.id.Kind.{Kind}
-use Rattle.fetch_store.specs.declared.id.ObjectId.{ObjectId}
+use Rattle.fetch_base.specs.Scan.{split_first}
+use Rattle.fetch_base.specs.declared.id.Kind.{Kind}
+use Rattle.fetch_base.specs.declared.id.ObjectId.{ObjectId}
 use Rattle.fetch_wire.specs.declared.replies.reply.ReplyContext.{ReplyContext}
 use Rattle.fetch_wire.specs.declared.replies.reply.ReplyKind.{ReplyKind}
 use Rattle.fetch_wire.specs.declared.replies.reply.ReplyKind.TheVariants as awaits

@@ -5,10 +5,10 @@ use Rattle.std.specs.Option.{option_and_then}
 use Rattle.std.proofs.lemmas.List.{append-nil}
 use Rattle.std.proofs.lemmas.List.Elements.{All-head, All-tail}
 use Rattle.hex.specs.Hex.{encode_lower}
-use Rattle.fetch_store.specs.Id.{bytes_of, id_in_hex}
-use Rattle.fetch_store.specs.declared.id.Kind.{Kind}
-use Rattle.fetch_store.specs.declared.id.ObjectId.{ObjectId}
-use Rattle.fetch_store.proofs.TagTexts.{after_of}
+use Rattle.fetch_base.specs.Id.{bytes_of, id_in_hex}
+use Rattle.fetch_base.specs.declared.id.Kind.{Kind}
+use Rattle.fetch_base.specs.declared.id.ObjectId.{ObjectId}
+use Rattle.fetch_base.proofs.Words.{after_of}
 use Rattle.fetch_wire.specs.declared.replies.reply.ReplyContext.{ReplyContext}
 use Rattle.fetch_wire.specs.declared.replies.reply.ReplyKind.TheVariants.{Reply}
 use Rattle.fetch_wire.specs.declared.replies.reply.ParsedReply.{ParsedReply}

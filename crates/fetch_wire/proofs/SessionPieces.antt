@@ -3,7 +3,7 @@ use Rattle.std.proofs.Common.{◌≡◌, ◌≢◌, ℕ, suc, zero, ◌+◌, Boo
 use Rattle.std.specs.Prelude.{⊤, if◌then◌else◌}
 use Rattle.std.specs.Option.{option_and_then}
 use Rattle.std.proofs.lemmas.List.{append-nil}
-use Rattle.fetch_store.specs.declared.id.Kind.{Kind}
+use Rattle.fetch_base.specs.declared.id.Kind.{Kind}
 use Rattle.fetch_wire.specs.declared.replies.reply.ReplyError.{ReplyError}
 use Rattle.fetch_wire.specs.declared.replies.reply.ReplyError.TheVariants as faults
 use Rattle.fetch_wire.specs.declared.replies.reply.ParsedReply.{ParsedReply}

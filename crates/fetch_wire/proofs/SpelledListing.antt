@@ -6,14 +6,13 @@ use Rattle.std.proofs.lemmas.Bool.{eqb-true}
 use Rattle.std.proofs.lemmas.List.{append-nil}
 use Rattle.std.proofs.lemmas.List.Elements.{All-nil, All-cons, All-head, All-tail}
 use Rattle.std.proofs.lemmas.Slice.Eq.{bytes_eq-Decides}
-use Rattle.fetch_store.specs.Id.{id_in_hex}
-use Rattle.fetch_store.specs.Lines.{IsWithout}
-use Rattle.fetch_store.specs.Scan.{split_first, after}
-use Rattle.fetch_store.specs.declared.id.Kind.{Kind}
-use Rattle.fetch_store.specs.declared.id.ObjectId.{ObjectId}
-use Rattle.fetch_store.proofs.LineLaws.{splits}
-use Rattle.fetch_store.proofs.CommitTexts.{parts_without}
-use Rattle.fetch_store.proofs.TagTexts.{after_is}
+use Rattle.fetch_base.specs.Id.{id_in_hex}
+use Rattle.fetch_base.specs.Lines.{IsWithout}
+use Rattle.fetch_base.specs.Scan.{split_first, after}
+use Rattle.fetch_base.specs.declared.id.Kind.{Kind}
+use Rattle.fetch_base.specs.declared.id.ObjectId.{ObjectId}
+use Rattle.fetch_base.proofs.LineLaws.{splits}
+use Rattle.fetch_base.proofs.Words.{parts_without, after_is}
 use Rattle.fetch_wire.specs.declared.replies.reply.ParsedReply.{ParsedReply}
 use Rattle.fetch_wire.specs.declared.replies.reply.ParsedReply.TheVariants as tolds
 use Rattle.fetch_wire.specs.declared.lines.line.Line.{Line}

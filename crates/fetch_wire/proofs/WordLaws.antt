@@ -3,9 +3,9 @@ use Rattle.std.proofs.Common.{◌≡◌, ℕ, Bool, true, false, not, ◌&&◌, 
 use Rattle.std.specs.Prelude.{◌==◌}
 use Rattle.std.specs.List.{list_all}
 use Rattle.std.proofs.lemmas.Bool.{eqb-true}
-use Rattle.fetch_store.specs.Scan.{split_first}
-use Rattle.fetch_store.specs.Lines.{IsWithout}
-use Rattle.fetch_store.proofs.LineLaws.{splits}
+use Rattle.fetch_base.specs.Scan.{split_first}
+use Rattle.fetch_base.specs.Lines.{IsWithout}
+use Rattle.fetch_base.proofs.LineLaws.{splits}
 use Rattle.fetch_wire.specs.Words.{words}
 
 both : (a b : Bool) → (a && b) ≡ true → (a ≡ true) × (b ≡ true)

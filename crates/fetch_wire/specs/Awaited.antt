@@ -1,7 +1,7 @@
 -- Each reply that can be awaited, read line by line: what a line does to what was told so far.
 use Rattle.std.specs.Prelude.{ℕ, List, [], ◌∷◌, ◌++◌, Option, Some, None, Result, if◌then◌else◌}
 use Rattle.std.specs.Option.{option_and_then}
-use Rattle.fetch_store.specs.declared.id.Kind.{Kind}
+use Rattle.fetch_base.specs.declared.id.Kind.{Kind}
 use Rattle.fetch_wire.specs.declared.replies.reply.ReplyKind.{ReplyKind}
 use Rattle.fetch_wire.specs.declared.replies.reply.ReplyKind.TheVariants.{Greeting, Listing, Reply}
 use Rattle.fetch_wire.specs.declared.replies.reply.ReplyError.{ReplyError}

@@ -2,7 +2,7 @@
 use Rattle.std.specs.Prelude.{ℕ, ◌+◌, ◌-◌, ◌^◌, ◌<◌, List, ◌++◌, ◌∷◌, [], take, drop, slice_index_or, None, Contains, Bool, true, false}
 use Rattle.std.specs.Prelude.{Result, Ok, Err}
 use Rattle.std.specs.List.{concat}
-use Rattle.fetch_store.specs.Calls.{CallList, one_more}
+use Rattle.fetch_base.specs.Calls.{CallList, one_more}
 use Rattle.fetch_wire.specs.Talks.{Talk, Receive}
 use Rattle.fetch_wire.specs.declared.session.peer.SendFault.{SendFault}
 use Rattle.fetch_wire.specs.declared.session.peer.SendFault.TheVariants as sending

@@ -2,7 +2,7 @@
 
 ghost use Rattle.std.specs.Prelude.{◌≡◌, IfOk};
 
-use fetch_store::{List, NoMemory, TryClone};
+use fetch_base::{List, NoMemory, TryClone};
 use std::alloc::Global;
 
 /// A list of copies of these items.

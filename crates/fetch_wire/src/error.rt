@@ -2,7 +2,7 @@
 
 ghost use Rattle.std.specs.Prelude.{◌≡◌, IfOk};
 
-use fetch_store::{NoMemory, Text, TryClone};
+use fetch_base::{NoMemory, Text, TryClone};
 use std::alloc::{AllocError, AllocFailed};
 use thiserror::Error;
 

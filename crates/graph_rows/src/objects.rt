@@ -1,9 +1,9 @@
 //! Objects that are put into a store.
 
 ghost use Rattle.std.specs.Prelude.{◌≡◌, IsTrue, IfSome, IfOk};
-ghost use Rattle.fetch_store.specs.Id.{kind_of};
+ghost use Rattle.fetch_base.specs.Id.{kind_of};
 ghost use Rattle.fetch_store.specs.Stores.{AreOf};
-ghost use Rattle.fetch_store.specs.declared.id.Kind.TheVariants as kinds;
+ghost use Rattle.fetch_base.specs.declared.id.Kind.TheVariants as kinds;
 
 use crate::words::{id_of, ids_of};
 use fetch_pack::read_pack;

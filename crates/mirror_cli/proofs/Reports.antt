@@ -6,7 +6,7 @@ use Rattle.std.specs.List.{flat_map}
 use Rattle.fetch_store.specs.Borders.{ids_of}
 use Rattle.fetch_store.specs.Closed.{IsStored}
 use Rattle.fetch_store.specs.Stores.{ObjectMap}
-use Rattle.fetch_store.specs.declared.id.ObjectId.{ObjectId}
+use Rattle.fetch_base.specs.declared.id.ObjectId.{ObjectId}
 use Rattle.fetch_store.proofs.Borders.{Contains-named, ids_of-set, named-Contains, same_sets}
 use Rattle.fetch_store.proofs.Keys.{keys-rise}
 use Rattle.fetch_refs.specs.Names.{Names}

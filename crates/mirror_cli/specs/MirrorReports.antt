@@ -5,8 +5,8 @@ use Rattle.std.specs.FinSet as set
 use Rattle.std.specs.List.{flat_map}
 use Rattle.std.specs.List.Sorted.{IsStrictlySortedBy}
 use Rattle.fetch_store.specs.Closed.{IsStored, Reached, holding}
-use Rattle.fetch_store.specs.Stores.{id_cmp}
-use Rattle.fetch_store.specs.declared.id.ObjectId.{ObjectId}
+use Rattle.fetch_base.specs.Id.{id_cmp}
+use Rattle.fetch_base.specs.declared.id.ObjectId.{ObjectId}
 use Rattle.fetch_refs.specs.Names.{Names}
 use Rattle.fetch_refs.specs.declared.target.Target.{Target}
 use Rattle.fetch_remote.specs.Repositories.{State}

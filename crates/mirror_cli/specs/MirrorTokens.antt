@@ -1,7 +1,7 @@
 -- How it is told why a repository isn't mirrored: the variant's name, and what it keeps, each after a space. A repository that
 -- isn't served and a listing that was refused are told as what is wrapped.
 use Rattle.std.specs.Prelude.{ℕ, List, codes, decimal}
-use Rattle.fetch_store.specs.Digits.{hex_of}
+use Rattle.fetch_base.specs.Digits.{hex_of}
 use Rattle.fetch_conversation.specs.declared.prepare.Error.TheVariants as prepare
 use Rattle.fetch_remote.specs.declared.fetching.fetch_error.FetchError.TheVariants as fetch
 use Rattle.fetch_serve.specs.declared.error.ServeError.{ServeError}

@@ -1,7 +1,7 @@
 //! Peers that count how often they failed, and may be held before each call.
 
 ghost use Rattle.std.specs.Prelude.{◌≡◌};
-ghost use Rattle.fetch_store.specs.Faults.{Rose, Counts, counted};
+ghost use Rattle.fetch_base.specs.Faults.{Rose, Counts, counted};
 
 use fetch_store::Failed;
 use fetch_wire::{Peer, SendFault};
@@ -60,7 +60,7 @@ impl<P: Peer + Drop, H: Hold + Drop> CountedPeer<P, H> {
 
 impl<P: Peer + Drop, H: Hold + Drop> Peer for CountedPeer<P, H> {
     ghost use Rattle.std.specs.Prelude.{false, None};
-    ghost use Rattle.fetch_store.specs.Faults.{counted};
+    ghost use Rattle.fetch_base.specs.Faults.{counted};
 
     ghost told = { λ _. None };
 

@@ -2,7 +2,7 @@
 use Rattle.std.proofs.Common.{◌≡◌, ℕ, suc, ◌≤◌, false, List, [], ◌∷◌, ◌++◌, length, map, Option, Some, None, Result, Ok, Err, refl, sym, ap, ◌∙◌, subst, arith}
 use Rattle.std.specs.Prelude.{MatchOption, IsOkUnless, slice_get}
 use Rattle.std.proofs.lemmas.List.{length-map}
-use Rattle.fetch_store.specs.Calls.{faults_of}
+use Rattle.fetch_base.specs.Calls.{faults_of}
 use Rattle.fetch_store.specs.Missing.{unclosed}
 use Rattle.fetch_store.specs.declared.missing.Missing.{Missing}
 use Rattle.fetch_update.specs.declared.worktrees.Worktree.{Worktree}

@@ -1,7 +1,7 @@
 -- What the program writes of a race, and its status.
 use Rattle.std.specs.Prelude.{◌≡◌, ℕ, Bool, true, false, List, [], ◌∷◌, map, Option, Some, None, Result, Ok, Err, slice_get}
 use Rattle.std.specs.List.{concat}
-use Rattle.fetch_store.specs.Calls.{faults_of}
+use Rattle.fetch_base.specs.Calls.{faults_of}
 use Rattle.fetch_store.specs.Missing.{unclosed}
 use Rattle.fetch_store.specs.declared.missing.Missing.{Missing}
 use Rattle.fetch_wire.specs.Scripts.{Script, talk_of}

@@ -1,7 +1,7 @@
 //! Words of a line.
 
 ghost use Rattle.std.specs.Prelude.{◌≡◌, [], IfOk, unwrap_or};
-ghost use Rattle.fetch_store.specs.Scan as scan;
+ghost use Rattle.fetch_base.specs.Scan as scan;
 ghost use Rattle.percent_encoding.specs.Percent as percent;
 
 use fetch_specs::{FullName, NameError};

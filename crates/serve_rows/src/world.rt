@@ -1,7 +1,7 @@
 //! The repository that a row's lines put down.
 
 ghost use Rattle.std.specs.Prelude.{◌≡◌, IfSome};
-ghost use Rattle.fetch_store.specs.Id.{kind_of};
+ghost use Rattle.fetch_base.specs.Id.{kind_of};
 
 use crate::references::add_reference;
 use fetch_refs::Refs;

@@ -2,7 +2,7 @@
 
 ghost use Rattle.std.specs.Prelude.{◌≡◌, ◌≤◌, length, IfOk, IsErrOf, OnErr};
 ghost use Rattle.std.specs.Io.KnownBytes.{IsAtEnd};
-ghost use Rattle.fetch_store.specs.Faults.{Rose, Counts};
+ghost use Rattle.fetch_base.specs.Faults.{Rose, Counts};
 ghost use Rattle.fetch_cli.specs.Io.{IsAll, IsLongerThan};
 
 use crate::program::io::Source;

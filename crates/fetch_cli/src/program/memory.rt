@@ -3,8 +3,8 @@
 ghost use Rattle.std.specs.Prelude.{◌≡◌, ◌≤◌, ◌<◌, ◌+◌, ◌↔◌, ℕ, [], min, nat_lt, length, Some, drop, IfSome, IfOk, OnOk, OnErr, IsErr};
 ghost use Rattle.std.specs.Prelude.{IsErrOf, Contains};
 ghost use Rattle.std.specs.Io.KnownBytes.{ReadConsumes};
-ghost use Rattle.fetch_store.specs.Calls.{one_more, faults_of};
-ghost use Rattle.fetch_store.specs.Faults.{Faults, Rose, Counts};
+ghost use Rattle.fetch_base.specs.Calls.{one_more, faults_of};
+ghost use Rattle.fetch_base.specs.Faults.{Faults, Rose, Counts};
 ghost use Rattle.fetch_cli.specs.Io.{Takes};
 
 use crate::program::io::{Sink, Source};

@@ -1,7 +1,7 @@
 //! The real ends: they count their faults, and tell of the bytes what the reader and the writer tell.
 
 ghost use Rattle.std.specs.Prelude.{◌≡◌, true};
-ghost use Rattle.fetch_store.specs.Faults.{Faults};
+ghost use Rattle.fetch_base.specs.Faults.{Faults};
 ghost use Rattle.fetch_cli.specs.Io.{Takes};
 
 use crate::program::io::{Sink, Source};

@@ -1,7 +1,7 @@
 //! How a report tells a refusal.
 
 ghost use Rattle.std.specs.Prelude.{◌≡◌, ◌++◌, decimal, OnOk};
-ghost use Rattle.fetch_store.specs.Digits.{hex_of};
+ghost use Rattle.fetch_base.specs.Digits.{hex_of};
 ghost use Rattle.fetch_cli.specs.Tokens as spec;
 
 use crate::reporting::lines::append_target;

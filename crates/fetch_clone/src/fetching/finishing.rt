@@ -2,7 +2,7 @@
 
 ghost use Rattle.std.specs.Prelude.{◌≡◌, IfErr, IsErrOf, OnErr, OnOk};
 ghost use Rattle.std.specs.Option.{option_copied};
-ghost use Rattle.fetch_store.specs.Faults.{Counts, Rose};
+ghost use Rattle.fetch_base.specs.Faults.{Counts, Rose};
 ghost use Rattle.fetch_remote.specs.Repositories.{setup_of, state_of};
 ghost use Rattle.fetch_clone.specs.Cloned.{IsFinished, IsInForce, IsUnfinished};
 ghost use Rattle.fetch_clone.specs.declared.clone.fetch.Error.TheVariants as errors;

@@ -1,7 +1,7 @@
 //! A clone takes the hash of its remote.
 
 ghost use Rattle.std.specs.Prelude.{◌≡◌, IfOk, IfErr, IsErrOf, OnErr};
-ghost use Rattle.fetch_store.specs.Faults.{Rose, Counts};
+ghost use Rattle.fetch_base.specs.Faults.{Rose, Counts};
 ghost use Rattle.fetch_remote.specs.Repositories.{setup_of};
 ghost use Rattle.fetch_remote.specs.declared.repository.open_error.OpenError.TheVariants as opening;
 ghost use Rattle.fetch_clone.specs.Hashed as spec;

@@ -3,7 +3,7 @@
 ghost use Rattle.std.specs.Prelude.{◌≡◌, ◌≤◌, ◌<◌, ◌+◌, IfOk, IfErr, IsErrOf, OnOk, OnErr, filter, not, true, false};
 ghost use Rattle.std.specs.Fn.{CalledAtMut};
 ghost use Rattle.std.specs.List.{list_any};
-ghost use Rattle.fetch_store.specs.Faults.{Counts, Rose};
+ghost use Rattle.fetch_base.specs.Faults.{Counts, Rose};
 ghost use Rattle.fetch_conversation.specs.Errors.{is_interrupted};
 ghost use Rattle.fetch_conversation.specs.Receiving.{last_question};
 ghost use Rattle.fetch_conversation.specs.declared.prepare.Error.TheVariants as prepare_errors;

@@ -2,7 +2,7 @@
 
 ghost use Rattle.std.specs.Prelude.{◌≡◌, ◌≤◌, IfOk, IfErr, slice_get};
 ghost use Rattle.std.specs.Fn.{CalledAtMut};
-ghost use Rattle.fetch_store.specs.Faults.{Counts};
+ghost use Rattle.fetch_base.specs.Faults.{Counts};
 ghost use Rattle.fetch_remote.specs.Connecting.{out_after};
 ghost use Rattle.fetch_clone.specs.Reached as spec;
 ghost use Rattle.fetch_clone.specs.Reached.{IsReached, IsTurnedAway, IsUnreached, line, ways};

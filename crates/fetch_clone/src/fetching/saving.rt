@@ -3,7 +3,7 @@
 ghost use Rattle.std.specs.Prelude.{◌≡◌, IfOk, IfErr, IsErrOf, OnOk};
 ghost use Rattle.std.specs.Fn.{CalledAtMut};
 ghost use Rattle.std.specs.Option.{option_copied};
-ghost use Rattle.fetch_store.specs.Faults.{Counts, Rose};
+ghost use Rattle.fetch_base.specs.Faults.{Counts, Rose};
 ghost use Rattle.fetch_remote.specs.Repositories.{setup_of};
 ghost use Rattle.fetch_remote.specs.declared.repository.open_error.OpenError.TheVariants as opening;
 ghost use Rattle.fetch_clone.specs.Counted.{IsCounted, Later, TreeMeters, meters};

@@ -1,10 +1,10 @@
 //! A repository is opened whose files were created.
 
 ghost use Rattle.std.specs.Prelude.{◌≡◌, IfOk, IfErr, IsErrOf, OnOk, IsTrue, Some, codes};
-ghost use Rattle.fetch_store.specs.FileCalls.{IsRefused};
-ghost use Rattle.fetch_store.specs.Faults.{Rose, Counts};
-ghost use Rattle.fetch_store.specs.Paths.{parts_of};
-ghost use Rattle.fetch_store.specs.Trees.{read_in};
+ghost use Rattle.fetch_files.specs.FileCalls.{IsRefused};
+ghost use Rattle.fetch_base.specs.Faults.{Rose, Counts};
+ghost use Rattle.fetch_files.specs.Paths.{parts_of};
+ghost use Rattle.fetch_files.specs.Trees.{read_in};
 ghost use Rattle.fetch_create.specs.Branches.{default_branch_of};
 ghost use Rattle.fetch_clone.specs.Initial as spec;
 ghost use Rattle.fetch_clone.specs.Initial.{IsBranchRefusal, IsInitial, IsNew, IsUnopened, IsUnready, is_init_fault};

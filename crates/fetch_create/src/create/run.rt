@@ -1,9 +1,9 @@
 //! Steps of a creation are taken.
 
 ghost use Rattle.std.specs.Prelude.{◌≡◌, Some, IfOk, IfErr, IfSome, OnOk, IsTrue, option_map};
-ghost use Rattle.fetch_store.specs.Faults.{Rose, Counts};
-ghost use Rattle.fetch_store.specs.Paths.{parts_of};
-ghost use Rattle.fetch_store.specs.Trees.{kind_in, with_directories};
+ghost use Rattle.fetch_base.specs.Faults.{Rose, Counts};
+ghost use Rattle.fetch_files.specs.Paths.{parts_of};
+ghost use Rattle.fetch_files.specs.Trees.{kind_in, with_directories};
 ghost use Rattle.fetch_create.specs.Creation.{Makes, Reaches, IsStopped, IsStopAt, IsOpenRefusal, listed_in, is_fault};
 ghost use Rattle.fetch_create.specs.declared.create.step.Step.TheVariants as steps;
 

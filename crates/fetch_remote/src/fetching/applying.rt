@@ -2,9 +2,9 @@
 
 ghost use Rattle.std.specs.Prelude.{◌≡◌, true, IfOk, IfErr, IfSome, OnOk, OnErr, Some, None, Ok};
 ghost use Rattle.std.specs.Option.{option_map};
-ghost use Rattle.fetch_store.specs.Answers.{AnswersBy, AnswersUnless};
-ghost use Rattle.fetch_store.specs.Faults.{Rose, Counts};
-ghost use Rattle.fetch_store.specs.FileCalls.{IsRefused};
+ghost use Rattle.fetch_base.specs.Answers.{AnswersBy, AnswersUnless};
+ghost use Rattle.fetch_base.specs.Faults.{Rose, Counts};
+ghost use Rattle.fetch_files.specs.FileCalls.{IsRefused};
 ghost use Rattle.fetch_store.specs.Collisions.{HasDistinctIds};
 ghost use Rattle.fetch_store.specs.Stores.{AreOf};
 ghost use Rattle.fetch_refs.specs.Expectations.{refusal_of};

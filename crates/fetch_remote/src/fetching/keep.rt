@@ -2,10 +2,10 @@
 
 ghost use Rattle.std.specs.Prelude.{◌≡◌, ◌⊎◌, [], None, Some, false, if◌then◌else◌, IfOk, IfErr, OnErr, OnOk};
 ghost use Rattle.std.specs.Option.{option_map};
-ghost use Rattle.fetch_store.specs.Faults.{Rose, Counts};
-ghost use Rattle.fetch_store.specs.FileCalls.{Changes, IsRefused};
-ghost use Rattle.fetch_store.specs.Paths.{parts_of};
-ghost use Rattle.fetch_store.specs.Trees.{written, without_file};
+ghost use Rattle.fetch_base.specs.Faults.{Rose, Counts};
+ghost use Rattle.fetch_files.specs.FileCalls.{Changes, IsRefused};
+ghost use Rattle.fetch_files.specs.Paths.{parts_of};
+ghost use Rattle.fetch_files.specs.Trees.{written, without_file};
 ghost use Rattle.fetch_conversation.specs.declared.fetch.Error.TheVariants as errors;
 ghost use Rattle.fetch_remote.specs.Keeping as spec;
 ghost use Rattle.fetch_remote.specs.Keeping.{AreFiles, with_keep, without_keep};

@@ -3,7 +3,7 @@
 ghost use Rattle.std.specs.Prelude.{◌≡◌, IfErr, IfOk, IfSome, OnErr, OnOk, Err, Ok};
 ghost use Rattle.std.specs.Bool.{OnFalse};
 ghost use Rattle.fetch_specs.specs.Parses.{parsed};
-ghost use Rattle.fetch_store.specs.Answers.{AnswersBy, AnswersUnless};
+ghost use Rattle.fetch_base.specs.Answers.{AnswersBy, AnswersUnless};
 ghost use Rattle.fetch_lookup.specs.Extended.{with_all};
 ghost use Rattle.fetch_lookup.specs.Names.{text_of};
 ghost use Rattle.fetch_lookup.specs.Remotes.{operation_of};

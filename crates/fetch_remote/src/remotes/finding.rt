@@ -5,7 +5,7 @@ ghost use Rattle.std.specs.FinMap as map;
 ghost use Rattle.std.specs.List.{list_any};
 ghost use Rattle.std.specs.Option.{option_copied, option_or};
 ghost use Rattle.fetch_refs.specs.declared.target.Target.TheVariants.{Symbolic};
-ghost use Rattle.fetch_store.specs.Answers.{AnswersUnless};
+ghost use Rattle.fetch_base.specs.Answers.{AnswersUnless};
 ghost use Rattle.fetch_lookup.specs.Remotes.{is_memory, is_remote};
 ghost use Rattle.fetch_lookup.specs.Results.{AnswersMaybe};
 ghost use Rattle.fetch_remote.specs.Finding as spec;

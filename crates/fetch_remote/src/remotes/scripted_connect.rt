@@ -2,8 +2,8 @@
 
 ghost use Rattle.std.specs.Prelude.{◌≡◌, ◌+◌, ◌<◌, ◌↔◌, ℕ, [], true, nat_lt, length, IfOk, IsErrOf, Some, Contains};
 ghost use Rattle.std.specs.List.{list_all};
-ghost use Rattle.fetch_store.specs.Faults.{Rose, Counts};
-ghost use Rattle.fetch_store.specs.Calls.{one_more, faults_of};
+ghost use Rattle.fetch_base.specs.Faults.{Rose, Counts};
+ghost use Rattle.fetch_base.specs.Calls.{one_more, faults_of};
 ghost use Rattle.fetch_wire.specs.Scripts.{sends_failed};
 ghost use Rattle.fetch_remote.specs.Connecting.{Makes, MakesAt, TakesBack, is_fresh, lost_in, out_after, with_lost};
 

@@ -1,7 +1,7 @@
 //! What a branch is called on its remote, where that is tracked, and which branch a tracking branch follows.
 
 ghost use Rattle.std.specs.Prelude.{◌≡◌, ℕ, List, Option, Result, None};
-ghost use Rattle.fetch_store.specs.Answers.{AnswersUnless};
+ghost use Rattle.fetch_base.specs.Answers.{AnswersUnless};
 ghost use Rattle.fetch_lookup.specs.Pushed as pushed;
 ghost use Rattle.fetch_lookup.specs.declared.direction.Direction.TheVariants as Direction;
 ghost use Rattle.fetch_lookup.specs.Results.{AnswersMaybe};

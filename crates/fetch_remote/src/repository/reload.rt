@@ -1,10 +1,10 @@
 //! A repository whose local configuration file changes.
 
 ghost use Rattle.std.specs.Prelude.{◌≡◌, IfOk, IfErr, IsErrOf, OnOk, OnErr, Some};
-ghost use Rattle.fetch_store.specs.Faults.{Rose, Counts};
-ghost use Rattle.fetch_store.specs.FileCalls.{IsRefused};
-ghost use Rattle.fetch_store.specs.Paths.{parts_of};
-ghost use Rattle.fetch_store.specs.Trees.{read_in};
+ghost use Rattle.fetch_base.specs.Faults.{Rose, Counts};
+ghost use Rattle.fetch_files.specs.FileCalls.{IsRefused};
+ghost use Rattle.fetch_files.specs.Paths.{parts_of};
+ghost use Rattle.fetch_files.specs.Trees.{read_in};
 ghost use Rattle.fetch_config.specs.Lines.{broken_line, sections_of};
 ghost use Rattle.fetch_remote.specs.Paths.{config_path};
 ghost use Rattle.fetch_remote.specs.Reloads.{HasRead, HasReloaded, IsReloadRefusal, IsReadRefusal, IsRefusedAt, IsBroken, Reads};

@@ -1,9 +1,9 @@
 //! A repository that stores an object under the id of another one, which no scene can say.
 
 ghost use Rattle.std.specs.Prelude.{◌≡◌, IfOk, IfSome};
-ghost use Rattle.fetch_store.specs.Id.{kind_of};
+ghost use Rattle.fetch_base.specs.Id.{kind_of};
 ghost use Rattle.fetch_store.specs.Stores.{AreOf};
-ghost use Rattle.fetch_store.specs.declared.id.Kind.TheVariants.{Sha1};
+ghost use Rattle.fetch_base.specs.declared.id.Kind.TheVariants.{Sha1};
 
 use fetch_cli::Scene;
 use fetch_store::{Kind, List, NoMemory, Object, ObjectId, ObjectKind};

@@ -4,10 +4,11 @@ ghost use Rattle.std.specs.Prelude.{◌≤◌, List, length, IsSome, All};
 ghost use Rattle.std.specs.FinMap as map;
 ghost use Rattle.std.specs.List.{IsDistinct};
 ghost use Rattle.std.specs.Ordering.{eq_by_cmp};
-ghost use Rattle.fetch_store.specs.declared.id.ObjectId.{ObjectId};
+ghost use Rattle.fetch_base.specs.declared.id.ObjectId.{ObjectId};
 ghost use Rattle.fetch_store.specs.Closed.{IsStored};
 ghost use Rattle.fetch_store.specs.Graph.{Graph};
-ghost use Rattle.fetch_store.specs.Stores.{ObjectMap, id_cmp};
+ghost use Rattle.fetch_store.specs.Stores.{ObjectMap};
+ghost use Rattle.fetch_base.specs.Id.{id_cmp};
 
 /// Distinct ids that are stored are no more than the objects there are, in a store and in a graph. So a walk that
 /// visits each id once makes no more steps than that.

@@ -3,7 +3,7 @@
 ghost use Rattle.std.specs.Prelude.{◌≡◌, ◌⊎◌, ◌↔◌, ◌+◌, ℕ, List, None, Some, All, Contains, IsSome, IsTrue};
 ghost use Rattle.std.specs.FinMap as map;
 ghost use Rattle.std.specs.FinSet as set;
-ghost use Rattle.fetch_store.specs.declared.id.ObjectId.{ObjectId};
+ghost use Rattle.fetch_base.specs.declared.id.ObjectId.{ObjectId};
 ghost use Rattle.fetch_store.specs.Objects.{Stored};
 ghost use Rattle.fetch_store.specs.Closed.{Grows, Holding, IsClosed, IsStored, Reached, links_within};
 ghost use Rattle.fetch_store.specs.Spread.{Nexts, IsOneOn, IsWithin, nexts_in};

@@ -2,10 +2,11 @@
 
 ghost use Rattle.std.specs.Prelude.{◌≡◌, ◌⊎◌, ◌↔◌, None, Some};
 ghost use Rattle.std.specs.FinMap as map;
-ghost use Rattle.fetch_store.specs.declared.id.ObjectId.{ObjectId};
+ghost use Rattle.fetch_base.specs.declared.id.ObjectId.{ObjectId};
 ghost use Rattle.fetch_store.specs.Collisions.{AreAtOne, IsFirstToDiffer};
 ghost use Rattle.fetch_store.specs.Objects.{Stored};
-ghost use Rattle.fetch_store.specs.Stores.{id_cmp, Entries, ObjectMap, add_all, collision, first_some};
+ghost use Rattle.fetch_store.specs.Stores.{Entries, ObjectMap, add_all, collision, first_some};
+ghost use Rattle.fetch_base.specs.Id.{id_cmp};
 
 /// What stands at an id once a list is added is what stood there, or else the list's first object of the id. Nothing
 /// else comes in.

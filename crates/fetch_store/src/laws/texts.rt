@@ -1,8 +1,8 @@
 //! Laws of the grammar of objects, in the words of the format.
 
 ghost use Rattle.std.specs.Prelude.{◌≡◌, ◌≤◌, false, ℕ, List, length};
-ghost use Rattle.fetch_store.specs.declared.id.Kind.{Kind};
-ghost use Rattle.fetch_store.specs.declared.object_kind.ObjectKind.{ObjectKind};
+ghost use Rattle.fetch_base.specs.declared.id.Kind.{Kind};
+ghost use Rattle.fetch_base.specs.declared.object_kind.ObjectKind.{ObjectKind};
 ghost use Rattle.fetch_store.specs.Objects.{links_of, is_object, place_of};
 ghost use Rattle.fetch_store.specs.Places.{BreaksAt};
 ghost use Rattle.fetch_store.specs.Texts.{TagsAreTexts};

@@ -20,7 +20,7 @@ use crate::replies::fetch_reply::shallow;
 use crate::replies::parser::{Advertised, Parsed, ReplyParser};
 use crate::replies::reply::ParsedReply;
 use crate::replies::saying::Saying;
-use fetch_store::{Kind, List, NoMemory, ObjectId, split_first};
+use fetch_base::{Kind, List, NoMemory, ObjectId, split_first};
 use std::alloc::Global;
 
 /// One capability more. An empty word is none.

@@ -4,10 +4,10 @@ ghost use Rattle.std.specs.Prelude.{◌≡◌, IfOk, fold, option_and_then};
 ghost use Rattle.std.specs.Option.{option_copied};
 ghost use Rattle.fetch_wire.specs.Greetings.{if_key, capability_in, format_in, is_format, format_of, is_known, if_known, hash_after};
 ghost use Rattle.fetch_wire.specs.Greetings.{last_named, is_version_2};
-ghost use Rattle.fetch_store.specs.declared.id.Kind.TheVariants.{Sha1};
+ghost use Rattle.fetch_base.specs.declared.id.Kind.TheVariants.{Sha1};
 
 use crate::greetings::handshake::Capability;
-use fetch_store::{Kind, NoMemory, Text, split_first};
+use fetch_base::{Kind, NoMemory, Text, split_first};
 use std::alloc::Global;
 
 /// A capability with this key, which isn't empty.

@@ -5,7 +5,7 @@ ghost use Rattle.std.specs.Option.{option_copied};
 
 use crate::greetings::greeting::last_named;
 use crate::lines::words::contains_word;
-use fetch_store::{Kind, List, NoMemory, Text, TryClone};
+use fetch_base::{Kind, List, NoMemory, Text, TryClone};
 
 /// The protocol that a server speaks.
 #[derive(Clone, Copy, Debug, PartialEq, Eq)]

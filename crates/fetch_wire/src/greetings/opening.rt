@@ -15,7 +15,7 @@ use crate::listings::listing::{PartialListing, add_text};
 use crate::replies::parser::{Parsed, ReplyParser};
 use crate::replies::reply::ParsedReply;
 use crate::replies::saying::Saying;
-use fetch_store::{Kind, List, NoMemory};
+use fetch_base::{Kind, List, NoMemory};
 use std::alloc::Global;
 
 #[tactic(auto, unfolding(crate::specs::Advertisements::is_version_1))]

@@ -5,7 +5,7 @@ ghost use Rattle.std.specs.Option.{option_map};
 ghost use Rattle.fetch_wire.specs.Parameters.{divides, bad_in, first_bad, texts_told, told_parameter};
 
 use crate::requests::request_parts::agent_text;
-use fetch_store::{NoMemory, Text};
+use fetch_base::{NoMemory, Text};
 use std::alloc::Global;
 
 /// Whether the byte divides what is sent: NUL or a line feed.

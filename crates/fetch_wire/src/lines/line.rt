@@ -3,7 +3,7 @@
 ghost use Rattle.std.specs.Prelude.{◌≡◌, IfOk};
 ghost use Rattle.fetch_wire.specs.LineViews.{line_of};
 
-use fetch_store::{NoMemory, Text};
+use fetch_base::{NoMemory, Text};
 use std::alloc::Global;
 
 /// A pkt-line whose payload is lent.

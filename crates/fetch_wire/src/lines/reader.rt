@@ -10,7 +10,7 @@ use crate::error::WireError;
 use crate::lines::line::LineRef;
 use crate::lines::section::{LineError, line_in};
 use crate::replies::bound::ReplyBound;
-use fetch_store::NoMemory;
+use fetch_base::NoMemory;
 use std::alloc::Global;
 use std::marker::Model;
 

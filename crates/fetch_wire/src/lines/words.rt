@@ -5,7 +5,7 @@ ghost use Rattle.std.specs.Option.{option_copied};
 ghost use Rattle.fetch_wire.specs.Words.{words, words_in};
 ghost use Rattle.fetch_wire.specs.Greetings.{has_word_in};
 
-use fetch_store::split_first;
+use fetch_base::split_first;
 
 /// The first word of a text, and what follows the space that ends it.
 pub(crate) fn next_word(text: &[u8]) -> (&[u8], Option<&[u8]>)

@@ -12,7 +12,7 @@ use crate::cloning::copy_slice;
 use crate::greetings::advertisement::peeled_to;
 use crate::lines::words::next_word;
 use crate::listings::reference::Ref;
-use fetch_store::{Kind, NoMemory, ObjectId, Text, after, digest, split_first};
+use fetch_base::{Kind, NoMemory, ObjectId, Text, after, digest, split_first};
 use std::alloc::Global;
 use std::collections::BTreeSet;
 use std::marker::Model;

@@ -5,8 +5,8 @@ ghost use Rattle.std.specs.Option.{option_copied};
 ghost use Rattle.fetch_wire.specs.Mappings.{spec_at};
 
 use crate::listings::reference::{Ref, Source};
+use fetch_base::{Kind, List, NoMemory, Text, TryClone};
 use fetch_specs::RefSpec;
-use fetch_store::{Kind, List, NoMemory, Text, TryClone};
 
 /// Which refspec made a mapping: one of the remote's, or one of the extra ones.
 #[derive(Clone, Copy, Debug, PartialEq, Eq)]

@@ -4,7 +4,7 @@ ghost use Rattle.std.specs.Prelude.{◌≡◌, IfOk};
 ghost use Rattle.std.specs.Option.{option_copied};
 ghost use Rattle.fetch_wire.specs.References.{name_in, id_in, peeled_in, target_in, source_id, source_peeled, source_name, source_target};
 
-use fetch_store::{NoMemory, ObjectId, Text, TryClone};
+use fetch_base::{NoMemory, ObjectId, Text, TryClone};
 
 /// A reference that a server lists.
 #[derive(Debug, Drop, PartialEq, Eq)]

@@ -19,7 +19,7 @@ use crate::replies::parser::{Parsed, Part, ReplyParser};
 use crate::replies::reply::{ParsedReply, ReplyContext};
 use crate::replies::saying::{Saying, said_by};
 use crate::requests::records::FetchReply;
-use fetch_store::{Kind, List, NoMemory, ObjectId, Text, after};
+use fetch_base::{Kind, List, NoMemory, ObjectId, Text, after};
 use std::alloc::Global;
 
 #[tactic(auto, unfolding(crate::specs::FetchReplies::is_acknowledgments))]

@@ -3,7 +3,7 @@
 ghost use Rattle.std.specs.Prelude.{◌≡◌, IfOk};
 ghost use Rattle.fetch_wire.specs.KnownIds.{HasIds, each_once};
 
-use fetch_store::{Distinct, List, NoMemory, ObjectId, TryClone};
+use fetch_base::{Distinct, List, NoMemory, ObjectId, TryClone};
 use std::alloc::Global;
 use std::collections::BTreeSet;
 use std::marker::Model;
@@ -18,7 +18,7 @@ pub struct Haves {
 
 impl Model for Haves {
     ghost use Rattle.std.specs.Prelude.{List};
-    ghost use Rattle.fetch_store.specs.declared.id.ObjectId.{ObjectId as Id};
+    ghost use Rattle.fetch_base.specs.declared.id.ObjectId.{ObjectId as Id};
     ghost use Rattle.fetch_wire.specs.KnownIds.{HasIds};
 
     ghost Value = { List Id };

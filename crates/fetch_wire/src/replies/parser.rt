@@ -16,7 +16,7 @@ use crate::replies::fetch_reply::read_reply;
 use crate::replies::reply::{ParsedReply, ReplyContext, ReplyKind};
 use crate::replies::saying::said_by;
 use crate::requests::records::FetchReply;
-use fetch_store::{Kind, List, NoMemory, Text, TryClone};
+use fetch_base::{Kind, List, NoMemory, Text, TryClone};
 use std::alloc::Global;
 
 /// What may come next in an advertisement of version 1.

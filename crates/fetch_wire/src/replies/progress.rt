@@ -8,7 +8,7 @@ use crate::lines::reader::{LineReader, Need};
 use crate::lines::section::LineError;
 use crate::replies::parser::{Parsed, ReplyParser};
 use crate::replies::reply::{ParsedReply, ReplyError};
-use fetch_store::{List, NoMemory, Text};
+use fetch_base::{List, NoMemory, Text};
 use std::alloc::Global;
 
 /// How far a reply was read.

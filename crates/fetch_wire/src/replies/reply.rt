@@ -6,7 +6,7 @@ use crate::greetings::handshake::Handshake;
 use crate::listings::reference::Ref;
 use crate::replies::haves::Haves;
 use crate::requests::records::FetchReply;
-use fetch_store::{Kind, List, NoMemory, Text, TryClone};
+use fetch_base::{Kind, List, NoMemory, Text, TryClone};
 
 /// What the reply to a fetch request depends on.
 #[derive(Debug, Drop)]

@@ -3,7 +3,7 @@
 ghost use Rattle.std.specs.Prelude.{◌≡◌, IfOk};
 ghost use Rattle.fetch_wire.specs.FetchReplies.{no_reply};
 
-use fetch_store::{List, NoMemory, ObjectId, Text, TryClone};
+use fetch_base::{List, NoMemory, ObjectId, Text, TryClone};
 use std::alloc::Global;
 
 /// What one round asks: text lines without their line feeds, the haves, and whether the rounds end.

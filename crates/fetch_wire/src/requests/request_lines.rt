@@ -3,14 +3,14 @@
 ghost use Rattle.std.specs.Prelude.{◌≡◌, ◌≤◌, ◌<◌, ◌++◌, length, position, IfOk, IfSome, OnOk};
 ghost use Rattle.fetch_wire.specs.Requests.{sent, when};
 ghost use Rattle.fetch_wire.specs.RequestWords.{have_word, done_word};
-ghost use Rattle.fetch_store.specs.Id.{bytes_of};
+ghost use Rattle.fetch_base.specs.Id.{bytes_of};
 ghost use Rattle.hex.specs.Hex.{encode_lower};
 ghost use Rattle.fetch_wire.specs.RequestLines.{id_lines, is_plain_pack, pack_place, request_lines};
 
 use crate::lines::line::Line;
 use crate::requests::records::Request;
 use crate::requests::request_parts::{append_texts, joined, text_line};
-use fetch_store::{NoMemory, ObjectId, Text};
+use fetch_base::{NoMemory, ObjectId, Text};
 use std::alloc::Global;
 
 impl Request {

@@ -8,7 +8,7 @@ ghost use Rattle.fetch_wire.specs.Requests.{head_texts, listing_word, detail_tex
 
 use crate::greetings::handshake::Handshake;
 use crate::lines::line::Line;
-use fetch_store::{Kind, NoMemory, Text};
+use fetch_base::{Kind, NoMemory, Text};
 use std::alloc::Global;
 
 /// Appends `name` or `name=value`, with a NUL after it.

@@ -12,7 +12,7 @@ use crate::lines::line::Line;
 use crate::listings::reference::Ref;
 use crate::requests::request_parts::joined;
 use crate::server::server_lines::{append_capabilities, append_ids, append_word, flushed, id_text};
-use fetch_store::{NoMemory, ObjectId, Text};
+use fetch_base::{NoMemory, ObjectId, Text};
 use std::alloc::Global;
 
 /// An id, a space, and a name.

@@ -9,7 +9,7 @@ use crate::lines::cutting::in_pieces;
 use crate::lines::line::Line;
 use crate::requests::request_parts::append_texts;
 use crate::server::server_lines::{append_acknowledged, append_ids};
-use fetch_store::{NoMemory, ObjectId, Text};
+use fetch_base::{NoMemory, ObjectId, Text};
 use std::alloc::Global;
 
 /// The ids that come to the border, and those that leave it.

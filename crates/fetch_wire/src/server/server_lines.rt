@@ -3,7 +3,7 @@
 ghost use Rattle.std.specs.Prelude.{◌≡◌, ◌++◌, ◌∷◌, [], map, codes, IfOk, OnOk};
 ghost use Rattle.std.specs.Option.{option_copied};
 ghost use Rattle.hex.specs.Hex.{encode_lower};
-ghost use Rattle.fetch_store.specs.Id.{bytes_of};
+ghost use Rattle.fetch_base.specs.Id.{bytes_of};
 ghost use Rattle.fetch_wire.specs.References.{name_in, id_in, peeled_in, target_in};
 ghost use Rattle.fetch_wire.specs.RequestLines.{id_lines};
 ghost use Rattle.fetch_wire.specs.Requests.{sent};
@@ -15,7 +15,7 @@ use crate::greetings::handshake::Capability;
 use crate::lines::line::Line;
 use crate::listings::reference::Ref;
 use crate::requests::request_parts::{append_texts, joined};
-use fetch_store::{NoMemory, ObjectId, Text};
+use fetch_base::{NoMemory, ObjectId, Text};
 use std::alloc::Global;
 
 /// `name`, or `name=value`.

@@ -13,7 +13,7 @@ use crate::requests::records::{FetchReply, Request};
 use crate::requests::request_parts::{first_line, listing_request};
 use crate::session::reply_buffer::{FoundReply, ReplyBuffer};
 use crate::session::turn::Turn;
-use fetch_store::{Kind, List, NoMemory, Text, TryClone};
+use fetch_base::{Kind, List, NoMemory, Text, TryClone};
 use std::alloc::Global;
 use std::marker::Model;
 
@@ -57,7 +57,7 @@ impl Session {
     ghost use Rattle.std.specs.Prelude.{◌≡◌, ◌≢◌, ◌≤◌, ◌⊎◌, ◌∷◌, [], true, None, Some, is_some, Ok, Err, length, drop, IfOk, IfErr, IfSome};
     ghost use Rattle.std.specs.Prelude.{OnOk, OnErr, IsErr};
     ghost use Rattle.std.specs.Option.{option_copied};
-    ghost use Rattle.fetch_store.specs.Answers.{RefusesUnless};
+    ghost use Rattle.fetch_base.specs.Answers.{RefusesUnless};
     ghost use Rattle.fetch_wire.specs.declared.replies.reply.ReplyKind.TheVariants as awaits;
     ghost use Rattle.fetch_wire.specs.declared.replies.reply.ParsedReply.TheVariants as told;
     ghost use Rattle.fetch_wire.specs.Intakes as intakes;

@@ -1,10 +1,10 @@
 //! The one that is fetched from, and the one that may stop the fetch.
 
 ghost use Rattle.std.specs.Prelude.{◌≡◌, ◌≤◌, ◌∷◌, [], ℕ, suc, Bool, false, length, IfOk, OnErr, IsErrOf, IsTrue, Option};
-ghost use Rattle.fetch_store.specs.Faults.{Faults, Rose, Counts};
+ghost use Rattle.fetch_base.specs.Faults.{Faults, Rose, Counts};
 ghost use Rattle.fetch_wire.specs.Talks.{Talk, Sends, Receives, Makes, at_once};
 
-use fetch_store::Failed;
+use fetch_base::Failed;
 use thiserror::Error;
 
 /// Why bytes weren't sent.

@@ -9,7 +9,7 @@ use crate::replies::bound::ReplyBound;
 use crate::replies::parser::ReplyParser;
 use crate::replies::progress::{ReplyProgress, read_on};
 use crate::replies::reply::{ParsedReply, ReplyError, ReplyKind};
-use fetch_store::{List, NoMemory, Text, TryClone};
+use fetch_base::{List, NoMemory, Text, TryClone};
 use std::alloc::Global;
 use std::marker::Model;
 

@@ -7,7 +7,7 @@ use crate::error::WireError;
 use crate::replies::bound::ReplyBound;
 use crate::replies::reply::{ParsedReply, ReplyError, ReplyKind};
 use crate::session::reply_buffer::{FoundReply, ReplyBuffer};
-use fetch_store::{NoMemory, TryClone};
+use fetch_base::{NoMemory, TryClone};
 use std::alloc::Global;
 use std::marker::Model;
 use std::mem;

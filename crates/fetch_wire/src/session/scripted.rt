@@ -3,16 +3,15 @@
 ghost use Rattle.std.specs.Prelude.{◌≡◌, ◌≤◌, ◌↔◌, ◌+◌, ◌-◌, ◌∷◌, ℕ, suc, [], nat_lt, min, length, Some, None, IsErr, IsOk, IsErrOf};
 ghost use Rattle.std.specs.Prelude.{IsTrue, OnErr, IfOk, Contains, false, slice_index_or};
 ghost use Rattle.std.specs.List.{concat};
-ghost use Rattle.fetch_store.specs.Faults.{Faults, Rose, Counts};
+ghost use Rattle.fetch_base.specs.Faults.{Faults, Rose, Counts};
 ghost use Rattle.fetch_wire.specs.Talks.{Talk, Sends, Receives, Makes, at_once};
-ghost use Rattle.fetch_store.specs.Calls.{one_more, faults_of};
-ghost use Rattle.fetch_store.specs.FileCalls.{risen_after};
+ghost use Rattle.fetch_base.specs.Calls.{one_more, faults_of, risen_after};
 ghost use Rattle.fetch_wire.specs.Scripts.{given_of, pieces_from, from_first, first_of, without, talk_of, sends_failed, said_after};
 ghost use Rattle.fetch_wire.specs.Scripts.{IsListed};
 
 use crate::cloning::copy_slice;
 use crate::session::peer::{Interrupt, Peer, SendFault};
-use fetch_store::{Calls, Failed, NoMemory, Text, copy_from};
+use fetch_base::{Calls, Failed, NoMemory, Text, copy_from};
 use opening_value::Openings;
 use std::alloc::Global;
 use std::marker::Model;

@@ -1,6 +1,6 @@
 use Rattle.fetch_bench.proofs.Texts.{line_is, text_grows}
 use Rattle.std.proofs.Common.{codes, decimal}
-use Rattle.fetch_store.specs.Digits.{hex_of}
+use Rattle.fetch_base.specs.Digits.{hex_of}
 use Rattle.fetch_bench.specs.Commits.{signature}
 use Rattle.fetch_bench.proofs.commits.append_commit.Goals as goal
 

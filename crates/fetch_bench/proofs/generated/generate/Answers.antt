@@ -1,6 +1,6 @@
 use Rattle.std.proofs.Common.{◌≡◌, ◌/◌, subst, sym, ◌∙◌}
 use Rattle.fetch_store.specs.Stores.{AreOf}
-use Rattle.fetch_store.specs.declared.id.Kind.TheVariants.{Sha1}
+use Rattle.fetch_base.specs.declared.id.Kind.TheVariants.{Sha1}
 use Rattle.fetch_bench.specs.Commits.{line_of}
 use Rattle.fetch_bench.proofs.Halves.{line_of_hash}
 use Rattle.fetch_bench.proofs.generated.generate.Goals as goal

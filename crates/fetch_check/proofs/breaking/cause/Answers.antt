@@ -2,8 +2,8 @@ use Rattle.std.proofs.Common.{◌≡◌, Bool, true, false, [], Result, Ok, Err,
 use Rattle.std.specs.Prelude.{IfOk}
 use Rattle.std.specs.Bool.{OnFalse}
 use Rattle.std.specs.FinMap as map
-use Rattle.fetch_store.specs.Answers.{AnswersUnless}
-use Rattle.fetch_store.specs.declared.id.ObjectId.{ObjectId}
+use Rattle.fetch_base.specs.Answers.{AnswersUnless}
+use Rattle.fetch_base.specs.declared.id.ObjectId.{ObjectId}
 use Rattle.fetch_store.specs.Graph.{graph_of}
 use Rattle.fetch_refs.specs.Answers.{is_memory}
 use Rattle.fetch_refs.specs.declared.error.RefError.{RefError}

@@ -1,5 +1,5 @@
 use Rattle.std.proofs.Common.{◌≡◌, Ok, sym, ap, subst, ◌∙◌}
-use Rattle.fetch_store.specs.Answers.{AnswersUnless}
+use Rattle.fetch_base.specs.Answers.{AnswersUnless}
 use Rattle.fetch_refs.specs.Answers.{is_memory}
 use Rattle.fetch_check.specs.Finding.{cause_in}
 use Rattle.fetch_check.proofs.breaking.told.Goals as goal

@@ -1,5 +1,5 @@
 use Rattle.std.proofs.Common.{codes, inl, refl}
-use Rattle.fetch_store.specs.declared.id.Kind.TheVariants.{Sha1, Sha256}
+use Rattle.fetch_base.specs.declared.id.Kind.TheVariants.{Sha1, Sha256}
 use Rattle.fetch_check.proofs.Breaks.{hash_text, head_stands, long_hash_text, no_first, no_hash}
 use Rattle.fetch_check.proofs.header.read_head.Goals as goal
 

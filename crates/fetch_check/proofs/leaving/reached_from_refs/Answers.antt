@@ -1,6 +1,6 @@
 use Rattle.std.proofs.Common.{Contains, subst, ◌∙◌}
 use Rattle.std.specs.Prelude.{IfOk, ◌↔◌}
-use Rattle.fetch_store.specs.declared.id.ObjectId.{ObjectId}
+use Rattle.fetch_base.specs.declared.id.ObjectId.{ObjectId}
 use Rattle.fetch_store.specs.Closed.{Reached, holding}
 use Rattle.fetch_check.proofs.leaving.reached_from_refs.Goals as goal
 

@@ -1,6 +1,6 @@
 use Rattle.std.proofs.Common.{Contains, sym, subst, ◌∙◌}
 use Rattle.std.specs.Prelude.{◌↔◌}
-use Rattle.fetch_store.specs.declared.id.ObjectId.{ObjectId}
+use Rattle.fetch_base.specs.declared.id.ObjectId.{ObjectId}
 use Rattle.fetch_store.specs.Closed.{Reached, holding}
 use Rattle.fetch_check.specs.Finding.{direct_ids}
 use Rattle.fetch_check.proofs.Unreached.{are_unreached}

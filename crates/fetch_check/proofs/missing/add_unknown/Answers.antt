@@ -1,6 +1,6 @@
 use Rattle.std.proofs.Common.{◌≡◌, ◌<◌, [], cond, length, get_or, sym, ap, ◌∙◌, arith}
-use Rattle.fetch_store.specs.declared.id.ObjectId.TheVariants.{Sha1}
-use Rattle.fetch_store.specs.Distinct.{with_distinct}
+use Rattle.fetch_base.specs.declared.id.ObjectId.TheVariants.{Sha1}
+use Rattle.fetch_base.specs.Distinct.{with_distinct}
 use Rattle.fetch_check.specs.declared.missing.Pair.{Pair}
 use Rattle.fetch_check.specs.Pairs.{pair_cmp}
 use Rattle.fetch_check.proofs.Firsts.{added, next_unknown}

@@ -4,7 +4,7 @@ use Rattle.std.specs.FinMap.{entries}
 use Rattle.fetch_store.specs.Borders.{ids_of}
 use Rattle.fetch_store.specs.Closed.{holding}
 use Rattle.fetch_store.specs.Missing.{unlinked_in, unknown_in}
-use Rattle.fetch_store.specs.declared.id.ObjectId.{ObjectId}
+use Rattle.fetch_base.specs.declared.id.ObjectId.{ObjectId}
 use Rattle.fetch_store.specs.declared.missing.Missing.{Missing}
 use Rattle.fetch_store.proofs.Unclosed.{unlinked_entries}
 use Rattle.fetch_check.specs.Finding.{missing_pairs}

@@ -1,6 +1,6 @@
 use Rattle.std.proofs.Common.{◌≡◌, ◌++◌, ◌∷◌, [], codes, sym}
-use Rattle.fetch_store.specs.Lines.{IsWithout}
-use Rattle.fetch_store.specs.Scan.{split_first}
+use Rattle.fetch_base.specs.Lines.{IsWithout}
+use Rattle.fetch_base.specs.Scan.{split_first}
 use Rattle.fetch_check.proofs.LinesTold.{if_view, none_view, ref_split, ref_unsplit}
 use Rattle.fetch_check.proofs.payloads.reference_parts.Goals as goal
 

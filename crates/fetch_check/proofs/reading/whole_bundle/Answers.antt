@@ -1,7 +1,8 @@
 use Rattle.std.proofs.Common.{ap, map, subst, ◌∙◌}
 use Rattle.std.specs.FinMap.{entries}
 use Rattle.std.specs.List.Sorted.{IsStrictlySortedBy}
-use Rattle.fetch_store.specs.Stores.{id_cmp, map_of}
+use Rattle.fetch_store.specs.Stores.{map_of}
+use Rattle.fetch_base.specs.Id.{id_cmp}
 use Rattle.fetch_check.proofs.Stocked.{entries_are}
 use Rattle.fetch_check.proofs.reading.whole_bundle.Goals as goal
 

@@ -1,5 +1,5 @@
 use Rattle.std.proofs.Common.{◌++◌, codes, append_assoc, sym, ap, ◌∙◌}
-use Rattle.fetch_store.specs.Digits.{hex_of}
+use Rattle.fetch_base.specs.Digits.{hex_of}
 use Rattle.fetch_check.specs.Telling.{cause_text}
 use Rattle.fetch_check.proofs.telling.append_cause.Goals as goal
 

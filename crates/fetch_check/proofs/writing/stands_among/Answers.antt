@@ -1,6 +1,6 @@
 use Rattle.std.proofs.Common.{subst, ◌∙◌}
 use Rattle.std.specs.List.Sorted.{IsBinarySearchResult}
-use Rattle.fetch_store.proofs.Orders.{cmp_is}
+use Rattle.fetch_base.proofs.Orders.{cmp_is}
 use Rattle.fetch_store.proofs.Borders.{searched_for}
 use Rattle.fetch_check.proofs.writing.stands_among.Goals as goal
 

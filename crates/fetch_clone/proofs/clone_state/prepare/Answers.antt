@@ -1,7 +1,7 @@
 use Rattle.std.proofs.Common.{◌≡◌, refl, sym, ◌∙◌}
 use Rattle.std.proofs.lemmas.Bool.{false≢true}
 use Rattle.std.proofs.lemmas.Result.{err_from_is_err_and}
-use Rattle.fetch_store.specs.Faults.{Rose-earlier}
+use Rattle.fetch_base.specs.Faults.{Rose-earlier}
 use Rattle.fetch_clone.proofs.Prepared.{has-address, preparing-fault, unprepared}
 use Rattle.fetch_clone.specs.CloneStates.{init_refusal}
 use Rattle.fetch_clone.specs.declared.clone.Error.TheVariants as errors

@@ -1,5 +1,5 @@
 use Rattle.std.proofs.lemmas.Result.{err_from_is_err_and}
-use Rattle.fetch_store.specs.Faults.{Rose-earlier}
+use Rattle.fetch_base.specs.Faults.{Rose-earlier}
 use Rattle.fetch_clone.specs.Initial.{new_of}
 use Rattle.fetch_create.specs.Plans.{steps_of}
 use Rattle.fetch_clone.proofs.Opened.{created-only, creating-fault, uncreated}

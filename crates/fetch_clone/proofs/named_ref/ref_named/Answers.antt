@@ -1,5 +1,5 @@
 use Rattle.std.proofs.Common.{subst}
-use Rattle.fetch_store.specs.Answers.{AnswersUnless}
+use Rattle.fetch_base.specs.Answers.{AnswersUnless}
 use Rattle.fetch_clone.specs.NamedRefs.{is_memory}
 use Rattle.fetch_clone.proofs.NamedRefs.{fall-back}
 use Rattle.fetch_clone.proofs.named_ref.ref_named.Goals as goal

@@ -1,6 +1,6 @@
 use Rattle.std.proofs.Common.{◌≡◌, Bool, true, false, not, List, Option, None, Result, Ok, Err, OnOk, IfErr, refl, sym, ap, ◌∙◌, subst}
 use Rattle.std.specs.Prelude.{◌||◌}
-use Rattle.fetch_store.specs.declared.id.ObjectId.{ObjectId}
+use Rattle.fetch_base.specs.declared.id.ObjectId.{ObjectId}
 use Rattle.fetch_wire.specs.RequestLines.{request_lines}
 use Rattle.fetch_wire.specs.SessionStates.{SessionState, IsAlike, requested, turn_of, refusal_of, if_told, is_all_sent, kind_of}
 use Rattle.fetch_wire.specs.Written.{first_too_long, TellsTooLong}

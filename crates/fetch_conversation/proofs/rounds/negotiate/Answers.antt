@@ -2,7 +2,7 @@ use Rattle.std.proofs.Common.{◌≡◌, ℕ, suc, ◌+◌, ◌<◌, Bool, true,
 use Rattle.std.specs.Prelude.{is_some}
 use Rattle.std.specs.FinMap as map
 use Rattle.std.proofs.lemmas.Result.{err_from_is_err_and}
-use Rattle.fetch_store.specs.Faults.{Counts-none, Counts-then}
+use Rattle.fetch_base.specs.Faults.{Counts-none, Counts-then}
 use Rattle.fetch_store.specs.Graph.{Graph}
 use Rattle.fetch_wire.specs.Talks.{Talk}
 use Rattle.fetch_wire.specs.declared.requests.records.FetchReply.{FetchReply}

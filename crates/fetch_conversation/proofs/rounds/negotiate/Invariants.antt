@@ -1,6 +1,6 @@
 use Rattle.std.proofs.Common.{◌≡◌, suc, length}
 use Rattle.std.specs.FinMap as map
-use Rattle.fetch_store.specs.Faults.{Counts}
+use Rattle.fetch_base.specs.Faults.{Counts}
 use Rattle.fetch_negotiate.specs.Any.{algorithm_of, known_by}
 use Rattle.fetch_negotiate.specs.Reading.{IsTold}
 use Rattle.fetch_conversation.specs.ConverseStage.{algorithm_in}

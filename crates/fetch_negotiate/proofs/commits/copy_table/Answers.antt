@@ -1,5 +1,5 @@
 use Rattle.std.proofs.Common.{refl}
-use Rattle.fetch_store.proofs.Ids.{id_cmp_total}
+use Rattle.fetch_base.proofs.Ids.{id_cmp_total}
 use Rattle.fetch_refs.proofs.Maps.{one-more}
 use Rattle.fetch_negotiate.proofs.commits.copy_table.Goals as goal
 

@@ -1,5 +1,5 @@
 use Rattle.std.proofs.Common.{◌+◌, ◌<◌, List, length, refl, ap, ◌∙◌, arith}
-use Rattle.fetch_store.specs.declared.id.ObjectId.{ObjectId}
+use Rattle.fetch_base.specs.declared.id.ObjectId.{ObjectId}
 use Rattle.fetch_negotiate.specs.declared.common.Common.{Common}
 use Rattle.fetch_negotiate.specs.Commits.{has}
 use Rattle.fetch_negotiate.specs.Reading.{links_at, read_in}

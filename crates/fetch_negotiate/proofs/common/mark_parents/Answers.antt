@@ -1,6 +1,6 @@
 use Rattle.std.proofs.Common.{◌≡◌, ◌<◌, List, [], get_or, length, take, sym, ap, subst, ◌∙◌}
-use Rattle.fetch_store.specs.declared.id.ObjectId.{ObjectId}
-use Rattle.fetch_store.specs.declared.id.ObjectId.TheVariants as ids
+use Rattle.fetch_base.specs.declared.id.ObjectId.{ObjectId}
+use Rattle.fetch_base.specs.declared.id.ObjectId.TheVariants as ids
 use Rattle.fetch_negotiate.specs.Reading.{links_at, read_in}
 use Rattle.fetch_negotiate.specs.Sharing.{IsWithin}
 use Rattle.fetch_negotiate.proofs.Commons.{marking_further, within_at}

@@ -1,5 +1,5 @@
 use Rattle.std.proofs.Common.{List, [], ◌∷◌, ◌++◌, ap, ◌∙◌}
-use Rattle.fetch_store.specs.declared.id.ObjectId.{ObjectId}
+use Rattle.fetch_base.specs.declared.id.ObjectId.{ObjectId}
 use Rattle.fetch_negotiate.specs.Reading.{read_in}
 use Rattle.fetch_negotiate.proofs.Onces.{adds}
 use Rattle.fetch_negotiate.proofs.Taking.{line_in_taken}

@@ -1,6 +1,6 @@
 use Rattle.std.proofs.Common.{[]}
-use Rattle.fetch_store.specs.declared.id.ObjectId.TheVariants as ids
-use Rattle.fetch_store.proofs.Orders.{cmp_is}
+use Rattle.fetch_base.specs.declared.id.ObjectId.TheVariants as ids
+use Rattle.fetch_base.proofs.Orders.{cmp_is}
 use Rattle.fetch_negotiate.proofs.Onces.{once_added}
 use Rattle.fetch_negotiate.proofs.once.each_once.Goals as goal
 

@@ -1,5 +1,5 @@
 use Rattle.std.proofs.Common.{Bool, List, ◌++◌, ap, ◌∙◌}
-use Rattle.fetch_store.specs.declared.id.ObjectId.{ObjectId}
+use Rattle.fetch_base.specs.declared.id.ObjectId.{ObjectId}
 use Rattle.fetch_store.specs.Borders.{ids_of}
 use Rattle.fetch_wire.specs.Requests.{when}
 use Rattle.fetch_wire.specs.RequestLines.{id_lines}

@@ -1,5 +1,5 @@
 use Rattle.std.proofs.Common.{◌≡◌, ◌++◌, map, Some, sym, ap, subst, ◌∙◌}
-use Rattle.fetch_store.specs.declared.id.ObjectId.{ObjectId}
+use Rattle.fetch_base.specs.declared.id.ObjectId.{ObjectId}
 use Rattle.fetch_negotiate.specs.declared.skip.Skip.{Skip}
 use Rattle.fetch_negotiate.specs.Haves.{Negotiation, taking}
 use Rattle.fetch_negotiate.specs.Reading.{Table, Grows, IsTold, links_at, read_in}

@@ -2,10 +2,11 @@ use Rattle.std.proofs.Common.{◌≡◌, ℕ, ◌∷◌, ◌++◌, [], length, S
 use Rattle.std.specs.Vec.Iter.{into_iter_items}
 use Rattle.std.specs.BTreeMap as tree
 use Rattle.std.specs.FinMap.{find}
-use Rattle.fetch_store.specs.contracts.id.ObjectIdOrd.TheImpl as order
-use Rattle.fetch_store.specs.declared.id.ObjectId.{ObjectId}
+use Rattle.fetch_base.specs.contracts.id.ObjectIdOrd.TheImpl as order
+use Rattle.fetch_base.specs.declared.id.ObjectId.{ObjectId}
 use Rattle.fetch_store.specs.Objects.{Stored}
-use Rattle.fetch_store.specs.Stores.{id_cmp, Entries}
+use Rattle.fetch_store.specs.Stores.{Entries}
+use Rattle.fetch_base.specs.Id.{id_cmp}
 use Rattle.fetch_pack.specs.Reading.{distinct}
 use Rattle.fetch_pack.specs.Places.{ArePlaces}
 use Rattle.fetch_pack.proofs.Keeping.{going, stays_known, collides, is_new, new_place}

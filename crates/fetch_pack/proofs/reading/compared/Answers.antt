@@ -1,6 +1,6 @@
 use Rattle.std.proofs.Common.{List, [], ℕ, Err, length, sym, ◌∙◌, refl, ap, slice_index_or}
-use Rattle.fetch_store.specs.declared.id.ObjectId.{ObjectId}
-use Rattle.fetch_store.specs.declared.id.ObjectId.TheVariants as ids
+use Rattle.fetch_base.specs.declared.id.ObjectId.{ObjectId}
+use Rattle.fetch_base.specs.declared.id.ObjectId.TheVariants as ids
 use Rattle.fetch_pack.specs.declared.error.PackError.TheVariants.{IdMismatch}
 use Rattle.fetch_pack.specs.declared.version.PackVersion.TheVariants.{V2}
 use Rattle.fetch_pack.specs.Records.{Written, records}

@@ -1,5 +1,5 @@
 use Rattle.std.proofs.Common.{subst, arith}
-use Rattle.fetch_store.specs.Answers.{AnswersBy}
+use Rattle.fetch_base.specs.Answers.{AnswersBy}
 use Rattle.fetch_store.specs.Collisions.{HasDistinctIds}
 use Rattle.fetch_store.specs.Stores.{AreOf}
 use Rattle.fetch_pack.specs.Once.{AreNamed}

@@ -1,5 +1,5 @@
 use Rattle.std.proofs.Common.{Bool, false, Some, refl, subst}
-use Rattle.fetch_store.specs.FileCalls.{IsRefused as IsBlocked}
+use Rattle.fetch_files.specs.FileCalls.{IsRefused as IsBlocked}
 use Rattle.fetch_remote.specs.Keeping.{with_keep}
 use Rattle.fetch_race.specs.declared.job.Job.{Job}
 use Rattle.fetch_race.specs.Racing.{Race}

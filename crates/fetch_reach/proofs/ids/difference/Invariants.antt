@@ -1,7 +1,7 @@
 use Rattle.std.proofs.Common.{◌≡◌, ℕ, ◌<◌, ◌≤◌, true, [], not, filter, length, get_or, take}
 use Rattle.std.specs.Ordering.{is_lt}
-use Rattle.fetch_store.specs.declared.id.ObjectId.TheVariants.{Sha1}
-use Rattle.fetch_store.specs.Stores.{id_cmp}
+use Rattle.fetch_base.specs.declared.id.ObjectId.TheVariants.{Sha1}
+use Rattle.fetch_base.specs.Id.{id_cmp}
 use Rattle.fetch_reach.specs.Sets.{is_among}
 use Rattle.fetch_reach.proofs.ids.difference.Given as goal
 

@@ -1,7 +1,7 @@
 use Rattle.std.proofs.Common.{◌≡◌, ◌<◌, ◌≤◌, ℕ, true, get_or}
 use Rattle.std.specs.Ordering.{is_lt}
-use Rattle.fetch_store.specs.declared.id.ObjectId.{ObjectId}
-use Rattle.fetch_store.specs.Stores.{id_cmp}
+use Rattle.fetch_base.specs.declared.id.ObjectId.{ObjectId}
+use Rattle.fetch_base.specs.Id.{id_cmp}
 use Rattle.fetch_reach.proofs.ids.first_not_below.Given as goal
 
 abbrev pub invariant-loop-place : goal.invariant-loop-place

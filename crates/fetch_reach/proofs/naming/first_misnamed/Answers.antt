@@ -2,7 +2,7 @@ use Rattle.std.proofs.Common.{◌≡◌, ◌∷◌, ◌++◌, [], append_assoc, 
 use Rattle.std.specs.FinMap.{entries}
 use Rattle.std.proofs.lemmas.List.{append-nil}
 use Rattle.std.proofs.lemmas.List.Elements.{All-append, All-cons, All-nil}
-use Rattle.fetch_store.specs.Hashing.{id_of}
+use Rattle.fetch_base.specs.Hashing.{id_of}
 use Rattle.fetch_store.specs.Iter.{left, shown}
 use Rattle.fetch_reach.specs.Named.{own_id}
 use Rattle.fetch_reach.proofs.OwnIds.{IsOwn, all_own, first_misnamed, hash_behind}

@@ -1,6 +1,6 @@
 use Rattle.std.proofs.Common.{◌∙◌, sym, subst, All}
 use Rattle.std.specs.FinMap.{entries, get-entries}
-use Rattle.fetch_store.specs.declared.id.ObjectId.{ObjectId}
+use Rattle.fetch_base.specs.declared.id.ObjectId.{ObjectId}
 use Rattle.fetch_store.specs.Objects.{Stored, IsObject}
 use Rattle.fetch_store.proofs.Lists.{All-find}
 use Rattle.fetch_reach.proofs.OwnIds.{mapped}

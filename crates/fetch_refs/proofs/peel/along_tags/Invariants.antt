@@ -1,6 +1,6 @@
 use Rattle.std.proofs.Common.{◌≡◌, ◌+◌, ◌^◌, ◌<◌, List, [], length}
 use Rattle.std.specs.FinMap.{len}
-use Rattle.fetch_store.specs.declared.id.ObjectId.{ObjectId}
+use Rattle.fetch_base.specs.declared.id.ObjectId.{ObjectId}
 use Rattle.fetch_refs.specs.Leading.{Leads, next_tag}
 use Rattle.fetch_refs.specs.Peeled.{through}
 use Rattle.fetch_refs.proofs.peel.along_tags.Given as goal

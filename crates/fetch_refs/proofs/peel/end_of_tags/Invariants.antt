@@ -1,5 +1,5 @@
 use Rattle.std.proofs.Common.{List}
-use Rattle.fetch_store.specs.declared.id.ObjectId.{ObjectId}
+use Rattle.fetch_base.specs.declared.id.ObjectId.{ObjectId}
 use Rattle.fetch_refs.specs.Leading.{Leads, next_tag}
 use Rattle.fetch_refs.proofs.peel.end_of_tags.Given as goal
 

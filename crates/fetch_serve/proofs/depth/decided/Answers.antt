@@ -1,6 +1,6 @@
 use Rattle.std.proofs.Common.{sym, subst, ◌∙◌}
 use Rattle.std.specs.List.Sorted.{IsStrictlySortedBy}
-use Rattle.fetch_store.specs.Stores.{id_cmp}
+use Rattle.fetch_base.specs.Id.{id_cmp}
 use Rattle.fetch_serve.specs.Parts.{held_by}
 use Rattle.fetch_serve.proofs.Kept.{kept_rises}
 use Rattle.fetch_serve.proofs.depth.decided.Goals as goal

@@ -1,6 +1,6 @@
 use Rattle.std.proofs.Common.{◌≡◌, ◌<◌, ◌++◌, ◌∷◌, [], cond, filter, length, get_or, sym, ap, ◌∙◌, arith}
 use Rattle.std.specs.FinSet as set
-use Rattle.fetch_store.specs.declared.id.ObjectId.TheVariants.{Sha1}
+use Rattle.fetch_base.specs.declared.id.ObjectId.TheVariants.{Sha1}
 use Rattle.fetch_serve.proofs.Collecting.{kept_more}
 use Rattle.fetch_serve.proofs.depth.met.Goals as goal
 use Rattle.fetch_serve.proofs.depth.met.Goals.{then-contains+in_ok-push, else-contains}

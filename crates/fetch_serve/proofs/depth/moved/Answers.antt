@@ -1,6 +1,6 @@
 use Rattle.std.proofs.Common.{◌≡◌, ◌<◌, ◌++◌, ◌∷◌, [], cond, length, get_or, sym, ap, ◌∙◌, arith}
 use Rattle.fetch_store.specs.Graph.{graph_of}
-use Rattle.fetch_store.specs.declared.id.ObjectId.TheVariants.{Sha1}
+use Rattle.fetch_base.specs.declared.id.ObjectId.TheVariants.{Sha1}
 use Rattle.fetch_serve.specs.Depths.{is_moved, moved_of}
 use Rattle.fetch_serve.proofs.Collecting.{kept_more}
 use Rattle.fetch_serve.proofs.depth.moved.Goals as goal

@@ -1,5 +1,5 @@
 use Rattle.std.proofs.Common.{◌≡◌, ◌++◌, ◌∷◌, [], ℕ, List, length, ap, sym, ◌∙◌}
-use Rattle.fetch_store.specs.Digits.{hex_of}
+use Rattle.fetch_base.specs.Digits.{hex_of}
 use Rattle.fetch_wire.specs.Written.{line_text}
 use Rattle.fetch_wire.specs.declared.lines.line.Line.TheVariants.{Payload}
 use Rattle.fetch_serve.proofs.Appending.{id_short, on_ok}

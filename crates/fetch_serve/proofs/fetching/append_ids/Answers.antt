@@ -1,6 +1,6 @@
 use Rattle.std.proofs.Common.{◌+◌, ◌<◌, ◌++◌, [], List, drop, length, get_or, sym, ap, ◌∙◌, arith}
-use Rattle.fetch_store.specs.declared.id.ObjectId.{ObjectId}
-use Rattle.fetch_store.specs.declared.id.ObjectId.TheVariants.{Sha1}
+use Rattle.fetch_base.specs.declared.id.ObjectId.{ObjectId}
+use Rattle.fetch_base.specs.declared.id.ObjectId.TheVariants.{Sha1}
 use Rattle.fetch_wire.specs.RequestLines.{id_lines}
 use Rattle.fetch_wire.specs.Requests.{sent}
 use Rattle.fetch_wire.specs.Written.{lines_text}

@@ -1,5 +1,5 @@
 use Rattle.std.proofs.Common.{◌≡◌, ◌++◌, ◌∷◌, [], ℕ, List, codes, length, ap, sym, ◌∙◌}
-use Rattle.fetch_store.specs.Digits.{hex_of}
+use Rattle.fetch_base.specs.Digits.{hex_of}
 use Rattle.fetch_serve.proofs.Appending.{on_ok, refusal_is, refusal_short}
 use Rattle.fetch_serve.proofs.fetching.append_not_offered.Goals as goal
 

@@ -1,7 +1,7 @@
 use Rattle.std.proofs.Common.{◌+◌, ◌<◌, ◌||◌, Bool, length, drop, [], sym, ap, ◌∙◌, arith}
 use Rattle.std.specs.List.{list_any}
 use Rattle.fetch_reach.specs.Stored.{objects_at}
-use Rattle.fetch_store.specs.declared.id.ObjectId.TheVariants.{Sha1}
+use Rattle.fetch_base.specs.declared.id.ObjectId.TheVariants.{Sha1}
 use Rattle.fetch_serve.specs.Replies.{is_too_long}
 use Rattle.fetch_serve.proofs.Collecting.{any_at}
 use Rattle.fetch_serve.proofs.limits.has_too_long.Goals as goal

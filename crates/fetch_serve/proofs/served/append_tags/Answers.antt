@@ -1,7 +1,7 @@
 use Rattle.std.proofs.Common.{ℕ, ◌-◌, ◌≡◌, ◌++◌, ◌∷◌, [], List, append_assoc, sym, ap, ◌∙◌, arith}
 use Rattle.std.proofs.lemmas.List.{append-nil}
 use Rattle.fetch_store.specs.Graph.{graph_of}
-use Rattle.fetch_store.specs.declared.id.ObjectId.{ObjectId}
+use Rattle.fetch_base.specs.declared.id.ObjectId.{ObjectId}
 use Rattle.fetch_store.proofs.Graphs.{len-graph_of}
 use Rattle.fetch_serve.specs.Packs.{tags_from}
 use Rattle.fetch_serve.proofs.Collecting.{tags_go, tags_stop}

@@ -1,6 +1,6 @@
 use Rattle.std.proofs.Common.{◌≡◌, ◌<◌, ◌++◌, ◌∷◌, [], cond, length, get_or, sym, ap, ◌∙◌, arith}
 use Rattle.std.specs.FinMap as finmap
-use Rattle.fetch_store.specs.declared.id.ObjectId.TheVariants.{Sha1}
+use Rattle.fetch_base.specs.declared.id.ObjectId.TheVariants.{Sha1}
 use Rattle.fetch_serve.specs.Packs.{stored_in}
 use Rattle.fetch_serve.proofs.Collecting.{kept_more}
 use Rattle.fetch_serve.proofs.served.known.Goals as goal

@@ -2,8 +2,8 @@ use Rattle.std.proofs.Common.{Contains, ap, sym, subst, ◌∙◌}
 use Rattle.std.specs.Prelude.{IfOk, ◌↔◌, ◌⊎◌}
 use Rattle.std.specs.List.{flat_map}
 use Rattle.std.specs.List.Sorted.{IsStrictlySortedBy}
-use Rattle.fetch_store.specs.Stores.{id_cmp}
-use Rattle.fetch_store.specs.declared.id.ObjectId.{ObjectId}
+use Rattle.fetch_base.specs.Id.{id_cmp}
+use Rattle.fetch_base.specs.declared.id.ObjectId.{ObjectId}
 use Rattle.fetch_serve.specs.Packs.{tags_of}
 use Rattle.fetch_serve.specs.Parts.{held_by}
 use Rattle.fetch_serve.specs.Requests.{has_id}

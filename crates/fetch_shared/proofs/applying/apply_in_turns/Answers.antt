@@ -1,5 +1,5 @@
 use Rattle.std.proofs.Common.{◌≡◌, false, true, refl, sym, ap, ◌∙◌}
-use Rattle.fetch_store.specs.Faults.{Counts-then, Rose-earlier}
+use Rattle.fetch_base.specs.Faults.{Counts-then, Rose-earlier}
 use Rattle.fetch_conversation.specs.ListStage.{shown}
 use Rattle.fetch_remote.specs.declared.fetching.outcome.Outcome.{Outcome}
 use Rattle.fetch_remote.proofs.Blamed.{files_still, files_as, trees_still, trees_as}

@@ -3,7 +3,7 @@ use Rattle.std.proofs.lemmas.List.{drop_all, get_or-map}
 use Rattle.fetch_specs.specs.declared.matching.Item.{Item}
 use Rattle.fetch_specs.specs.declared.found.Match.{Match}
 use Rattle.fetch_specs.specs.Matches.{added_all, found, is_excluded, mapping_unless, names_from, name_matches, source_taken}
-use Rattle.fetch_store.specs.declared.text.Text.{Text}
+use Rattle.fetch_base.specs.declared.text.Text.{Text}
 use Rattle.fetch_specs.proofs.Keys.{turn, from}
 use Rattle.fetch_specs.proofs.matching.add_names_of.Goals as goal
 

@@ -6,10 +6,10 @@ use Rattle.std.specs.Cmp.{eq_by_cmp_equiv, Equal-is}
 use Rattle.std.proofs.lemmas.List.Filters.{dedup_is}
 use Rattle.std.proofs.lemmas.List.Kept.{IsStrictlySortedBy-dedup, Contains-dedup, Contains-from_dedup}
 use Rattle.std.proofs.lemmas.List.Sorted.{Contains-permutation, IsPermutation-sym}
-use Rattle.fetch_store.specs.Stores.{id_cmp}
+use Rattle.fetch_base.specs.Id.{id_cmp}
 use Rattle.fetch_store.specs.Borders.{set_of, ids_of}
-use Rattle.fetch_store.proofs.Ids.{id_cmp_total, id_cmp_exact}
-use Rattle.fetch_store.proofs.Orders.{cmp_is, same_is, eq_is}
+use Rattle.fetch_base.proofs.Ids.{id_cmp_total, id_cmp_exact}
+use Rattle.fetch_base.proofs.Orders.{cmp_is, same_is, eq_is}
 use Rattle.fetch_store.proofs.Borders.{same_sets, ids_of-set}
 use Rattle.fetch_store.proofs.border.ascending.Goals as goal
 

@@ -1,9 +1,9 @@
 use Rattle.std.proofs.Common.{◌≡◌, None, All, get_or, sym, subst}
 use Rattle.std.specs.FinMap.{find}
 use Rattle.std.proofs.lemmas.List.Elements.{All-contains, Contains-get_or}
-use Rattle.fetch_store.specs.declared.id.ObjectId.{ObjectId}
+use Rattle.fetch_base.specs.declared.id.ObjectId.{ObjectId}
 use Rattle.fetch_store.specs.declared.span.Span.{Span}
-use Rattle.fetch_store.specs.Stores.{id_cmp}
+use Rattle.fetch_base.specs.Id.{id_cmp}
 use Rattle.fetch_store.specs.Buffers.{Index, IsIndexed, IsAppended}
 use Rattle.fetch_store.proofs.Arranged.{IsArranged}
 use Rattle.fetch_store.proofs.Buffers.{taken}

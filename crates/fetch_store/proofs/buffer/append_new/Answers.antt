@@ -3,7 +3,7 @@ use Rattle.std.specs.Prelude.{is_some}
 use Rattle.std.specs.FinMap.{find}
 use Rattle.std.proofs.lemmas.List.{length-append}
 use Rattle.fetch_store.specs.Objects.{Stored}
-use Rattle.fetch_store.specs.Stores.{id_cmp}
+use Rattle.fetch_base.specs.Id.{id_cmp}
 use Rattle.fetch_store.specs.Buffers.{Index}
 use Rattle.fetch_store.proofs.Finds.{is_some-copied}
 use Rattle.fetch_store.proofs.Buffers.{step_known, step_new, payload_at, absent_of, new_id, same_appended, all_taken}

@@ -1,8 +1,9 @@
 use Rattle.std.proofs.Common.{◌≡◌, ◌+◌, ◌≤◌, None, All, take, drop, vec_len}
 use Rattle.std.specs.Prelude.{vec_capacity}
 use Rattle.std.specs.FinMap.{find}
-use Rattle.fetch_store.specs.declared.id.Kind.{Kind}
-use Rattle.fetch_store.specs.Stores.{id_cmp, AreOf, payload_len}
+use Rattle.fetch_base.specs.declared.id.Kind.{Kind}
+use Rattle.fetch_store.specs.Stores.{AreOf, payload_len}
+use Rattle.fetch_base.specs.Id.{id_cmp}
 use Rattle.fetch_store.specs.Buffers.{IsIndexed, IsAppended}
 use Rattle.fetch_store.proofs.buffer.append_new.Given as goal
 

@@ -3,7 +3,8 @@ use Rattle.std.specs.Prelude.{is_some, option_map}
 use Rattle.std.specs.FinMap.{entries, get-entries, find}
 use Rattle.std.specs.BTreeMap as tree
 use Rattle.std.specs.Option.{option_copied}
-use Rattle.fetch_store.specs.Stores.{id_cmp, Entries, add_all, collision, first_some}
+use Rattle.fetch_store.specs.Stores.{Entries, add_all, collision, first_some}
+use Rattle.fetch_base.specs.Id.{id_cmp}
 use Rattle.fetch_store.specs.Objects.{Stored}
 use Rattle.fetch_store.specs.References.{seen}
 use Rattle.fetch_store.proofs.Additions.{collision_at}

@@ -6,11 +6,11 @@ use Rattle.std.specs.Ordering.{is_lt}
 use Rattle.std.proofs.lemmas.Fn.{dedup_same}
 use Rattle.std.proofs.lemmas.List.MinMax.{ranks_by}
 use Rattle.std.proofs.lemmas.List.Sorted.{answers_always}
-use Rattle.fetch_store.specs.contracts.id.ObjectIdOrd.TheImpl as order
-use Rattle.fetch_store.specs.contracts.id.ObjectIdPartialEq.TheImpl as equality
-use Rattle.fetch_store.specs.declared.id.ObjectId.{ObjectId}
-use Rattle.fetch_store.proofs.Ids.{id_cmp_total}
-use Rattle.fetch_store.proofs.Orders.{cmp_is, same_is}
+use Rattle.fetch_base.specs.contracts.id.ObjectIdOrd.TheImpl as order
+use Rattle.fetch_base.specs.contracts.id.ObjectIdPartialEq.TheImpl as equality
+use Rattle.fetch_base.specs.declared.id.ObjectId.{ObjectId}
+use Rattle.fetch_base.proofs.Ids.{id_cmp_total}
+use Rattle.fetch_base.proofs.Orders.{cmp_is, same_is}
 use Rattle.fetch_store.proofs.Arranged.{arranged}
 use Rattle.fetch_store.proofs.entries.arrange.Goals as goal
 

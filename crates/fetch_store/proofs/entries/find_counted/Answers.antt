@@ -1,8 +1,8 @@
 use Rattle.std.proofs.Common.{rules, ◌≡◌, ◌+◌, ◌-◌, ◌/◌, length, true, false, sym, ap, ◌∙◌, arith}
 use Rattle.std.specs.Ordering.{is_eq, is_lt}
 use Rattle.std.specs.Cmp.{Equal-is}
-use Rattle.fetch_store.specs.Stores.{id_cmp}
-use Rattle.fetch_store.proofs.Orders.{cmp_at}
+use Rattle.fetch_base.specs.Id.{id_cmp}
+use Rattle.fetch_base.proofs.Orders.{cmp_at}
 use Rattle.fetch_store.proofs.Probes.{halved_at, greater, lesser, left_of, right_of, hit, missed}
 use Rattle.fetch_store.proofs.entries.find_counted.Goals as goal
 

@@ -2,9 +2,9 @@ use Rattle.std.proofs.Common.{rules, ◌≡◌, ◌+◌, ◌-◌, ◌/◌, true,
 use Rattle.std.specs.Ordering.{is_eq, is_lt}
 use Rattle.std.specs.Cmp.{Equal-is}
 use Rattle.std.proofs.lemmas.List.{get_or_default}
-use Rattle.fetch_store.specs.Stores.{id_cmp}
-use Rattle.fetch_store.proofs.Ids.{id_cmp_exact}
-use Rattle.fetch_store.proofs.Orders.{cmp_at}
+use Rattle.fetch_base.specs.Id.{id_cmp}
+use Rattle.fetch_base.proofs.Ids.{id_cmp_exact}
+use Rattle.fetch_base.proofs.Orders.{cmp_at}
 use Rattle.fetch_store.proofs.Probes.{greater, lesser, left_of, right_of, missed, probing_of}
 use Rattle.fetch_store.proofs.entries.place_in_order.Goals as goal
 

@@ -1,7 +1,7 @@
 use Rattle.std.proofs.Common.{rules, ◌≡◌, true, sym, ap, ◌∙◌}
 use Rattle.std.specs.Ordering.{is_lt}
-use Rattle.fetch_store.specs.Stores.{id_cmp}
-use Rattle.fetch_store.proofs.Orders.{cmp_at}
+use Rattle.fetch_base.specs.Id.{id_cmp}
+use Rattle.fetch_base.proofs.Orders.{cmp_at}
 use Rattle.fetch_store.proofs.Probes.{lesser, risen_from}
 use Rattle.fetch_store.proofs.entries.rises_from.Goals as goal
 

@@ -1,7 +1,7 @@
 use Rattle.std.proofs.Common.{◌≡◌, true, sym, ap, ◌∙◌, arith}
 use Rattle.std.specs.Ordering.{is_gt}
-use Rattle.fetch_store.specs.Stores.{id_cmp}
-use Rattle.fetch_store.proofs.Orders.{cmp_at}
+use Rattle.fetch_base.specs.Id.{id_cmp}
+use Rattle.fetch_base.proofs.Orders.{cmp_at}
 use Rattle.fetch_store.proofs.Probes.{only_greater, risen_to}
 use Rattle.fetch_store.proofs.entries.rises_to.Goals as goal
 

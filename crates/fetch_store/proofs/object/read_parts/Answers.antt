@@ -2,7 +2,7 @@ use Rattle.std.proofs.Common.{List, ℕ, Option, ◌≡◌, ◌++◌, sym, ap, �
 use Rattle.std.specs.List.{filter_map, slice_get}
 use Rattle.std.specs.Option.{option_or}
 use Rattle.std.proofs.lemmas.List.{append-nil}
-use Rattle.fetch_store.specs.declared.id.ObjectId.{ObjectId}
+use Rattle.fetch_base.specs.declared.id.ObjectId.{ObjectId}
 use Rattle.fetch_store.specs.Steps.{step_view}
 use Rattle.fetch_store.specs.Objects.{reading, parent_in, seconds_in}
 use Rattle.fetch_store.proofs.Readings.{part_shorter, parts_end}

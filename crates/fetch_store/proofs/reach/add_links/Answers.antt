@@ -1,6 +1,6 @@
 use Rattle.std.proofs.Common.{List, filter, length, sym, ap, ◌∙◌, arith}
 use Rattle.std.specs.FinMap.{contains_key, keys}
-use Rattle.fetch_store.specs.declared.id.ObjectId.{ObjectId}
+use Rattle.fetch_base.specs.declared.id.ObjectId.{ObjectId}
 use Rattle.fetch_store.specs.Found.{with_each}
 use Rattle.fetch_store.specs.Marks.{ids_at}
 use Rattle.fetch_store.specs.References.{ids_left}

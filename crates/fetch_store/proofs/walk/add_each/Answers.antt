@@ -1,5 +1,5 @@
 use Rattle.std.proofs.Common.{false, ◌∙◌, arith}
-use Rattle.fetch_store.proofs.Orders.{cmp_is}
+use Rattle.fetch_base.proofs.Orders.{cmp_is}
 use Rattle.fetch_store.proofs.Spreading.{each_at, each_added}
 use Rattle.fetch_store.proofs.walk.add_each.Goals as goal
 use Rattle.fetch_store.proofs.walk.add_each.Goals.{then-is_there+in_ok-add, else-is_there}

@@ -1,5 +1,5 @@
 use Rattle.std.proofs.Common.{◌≡◌, ◌≤◌, ◌+◌, ◌++◌, List, drop, sum_by, length}
-use Rattle.fetch_store.specs.declared.id.ObjectId.{ObjectId}
+use Rattle.fetch_base.specs.declared.id.ObjectId.{ObjectId}
 use Rattle.fetch_store.specs.Found.{with_next}
 use Rattle.fetch_store.specs.Spread.{next_to}
 use Rattle.fetch_store.proofs.walk.add_level.Given as goal

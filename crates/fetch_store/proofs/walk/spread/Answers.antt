@@ -1,11 +1,11 @@
 use Rattle.std.proofs.Common.{◌≡◌, ◌<◌, List, length, sym, ap, subst, ◌∙◌, arith}
 use Rattle.std.specs.Prelude.{IfSome}
 use Rattle.std.specs.List.Sorted.{IsPermutation, IsSorted}
-use Rattle.fetch_store.specs.declared.id.ObjectId.{ObjectId}
+use Rattle.fetch_base.specs.declared.id.ObjectId.{ObjectId}
 use Rattle.fetch_store.specs.Found.{there, with_each}
 use Rattle.fetch_store.specs.Spread.{IsWithin}
-use Rattle.fetch_store.specs.Stores.{id_cmp}
-use Rattle.fetch_store.proofs.Orders.{cmp_is}
+use Rattle.fetch_base.specs.Id.{id_cmp}
+use Rattle.fetch_base.proofs.Orders.{cmp_is}
 use Rattle.fetch_store.proofs.Spreading.{spreading_begins, spreading_at, looked_on, looked_all, spread_is, few_none, few_more, in_order, same_members}
 use Rattle.fetch_store.proofs.walk.spread.Goals as goal
 use Rattle.fetch_store.proofs.walk.spread.Goals.{then-loop-done-test+else-is_below, else-loop-done-test}

@@ -1,5 +1,5 @@
 use Rattle.std.proofs.Common.{◌≡◌, ◌≢◌, ◌≤◌, ℕ, ◌∷◌, [], Contains, refl, sym, subst, ◌∙◌, arith}
-use Rattle.fetch_store.specs.declared.id.ObjectId.{ObjectId}
+use Rattle.fetch_base.specs.declared.id.ObjectId.{ObjectId}
 use Rattle.fetch_update.specs.Dated.{parents_at, seconds_at, HasDatedPath}
 use Rattle.fetch_update.specs.Walks.{State, state, Grows}
 use Rattle.fetch_update.proofs.Paths.{alone, extended, last_commit, no_path, begun, next, ended, popped_room, first_room, taken, reads_end}

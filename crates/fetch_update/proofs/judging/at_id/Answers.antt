@@ -1,8 +1,8 @@
 use Rattle.std.proofs.Common.{sym, ap, ◌∙◌, subst, Result}
-use Rattle.fetch_store.proofs.Orders.{eq_is}
+use Rattle.fetch_base.proofs.Orders.{eq_is}
 use Rattle.fetch_update.specs.declared.update.Error.{Error}
 use Rattle.fetch_update.specs.declared.verdict.Verdict.{Verdict}
-use Rattle.fetch_store.specs.Answers.{AnswersUnless}
+use Rattle.fetch_base.specs.Answers.{AnswersUnless}
 use Rattle.fetch_update.specs.Policy.{is_memory, policy_of, place_in_code, value_in_code, no_update, guessed, fast_forward}
 use Rattle.fetch_update.proofs.Judged.{same_at, guessed_at, ahead_at}
 use Rattle.fetch_update.proofs.judging.at_id.Goals as goal

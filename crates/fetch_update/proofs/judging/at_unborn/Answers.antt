@@ -1,6 +1,6 @@
 use Rattle.std.proofs.Common.{subst}
 use Rattle.fetch_update.specs.declared.mode.Mode.{Mode}
-use Rattle.fetch_store.specs.Answers.{AnswersUnless}
+use Rattle.fetch_base.specs.Answers.{AnswersUnless}
 use Rattle.fetch_update.specs.Policy.{is_memory, if_valid, written, place_in_code, value_in_code, change_unborn}
 use Rattle.fetch_update.proofs.judging.at_unborn.Goals as goal
 

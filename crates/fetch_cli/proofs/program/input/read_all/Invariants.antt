@@ -1,6 +1,6 @@
 use Rattle.std.proofs.Common.{◌≡◌, ◌+◌, ◌-◌, ◌^◌, length}
 use Rattle.std.specs.Io.KnownBytes.{Consumes}
-use Rattle.fetch_store.specs.Faults.{Counts}
+use Rattle.fetch_base.specs.Faults.{Counts}
 use Rattle.fetch_cli.proofs.program.input.read_all.Given as goal
 
 abbrev pub invariant-loop-piece : goal.invariant-loop-piece

@@ -1,6 +1,6 @@
 use Rattle.std.proofs.Common.{◌≡◌, ◌+◌, refl, ◌∙◌, arith, inl, inr}
 use Rattle.std.proofs.lemmas.Result.{err_from_is_err_and}
-use Rattle.fetch_store.specs.Faults.{Counts-none}
+use Rattle.fetch_base.specs.Faults.{Counts-none}
 use Rattle.fetch_clone.specs.Counted.{meters, tree_meters}
 use Rattle.fetch_clone.proofs.Completing.{was-listed}
 use Rattle.fetch_clone.proofs.Counted.{counted-later, later-files, later-then}

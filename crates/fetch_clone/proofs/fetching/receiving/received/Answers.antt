@@ -1,7 +1,7 @@
 use Rattle.std.proofs.Common.{Bool, refl, ap, ◌∙◌, inl, inr}
 use Rattle.std.specs.Prelude.{if◌then◌else◌}
 use Rattle.std.proofs.lemmas.Result.{err_from_is_err_and}
-use Rattle.fetch_store.specs.Faults.{Counts-none, Counts-then, Rose-earlier}
+use Rattle.fetch_base.specs.Faults.{Counts-none, Counts-then, Rose-earlier}
 use Rattle.fetch_clone.specs.Counted.{Meters, peer_meters, tree_meters}
 use Rattle.fetch_clone.proofs.Counted.{later-none, later-files}
 use Rattle.fetch_clone.proofs.Heeded.{heeded-of}

@@ -1,6 +1,6 @@
 use Rattle.std.proofs.Common.{refl, inl, inr}
 use Rattle.std.proofs.lemmas.Result.{err_from_is_err_and, IfErr-weaker, IfOk-weaker}
-use Rattle.fetch_store.specs.Faults.{Counts-none}
+use Rattle.fetch_base.specs.Faults.{Counts-none}
 use Rattle.fetch_clone.specs.Counted.{meters}
 use Rattle.fetch_clone.proofs.Counted.{at-ok}
 use Rattle.fetch_clone.proofs.StepsCounted.{counted-saved, named-counted}

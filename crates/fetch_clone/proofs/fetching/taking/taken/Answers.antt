@@ -1,6 +1,6 @@
 use Rattle.std.proofs.Common.{◌≤◌}
 use Rattle.fetch_clone.specs.Counted.{meters, peer_meters, tree_meters}
-use Rattle.fetch_store.specs.Faults.{Counts, Counts-none}
+use Rattle.fetch_base.specs.Faults.{Counts, Counts-none}
 use Rattle.fetch_clone.proofs.Answered.{is-taken, not-taken, taken-counted}
 use Rattle.fetch_clone.proofs.Counted.{counts-by}
 use Rattle.fetch_clone.proofs.Returned.{lost_later, lost_rose}

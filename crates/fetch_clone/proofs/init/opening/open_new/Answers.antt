@@ -1,6 +1,6 @@
 use Rattle.std.proofs.Common.{refl, IsTrue}
 use Rattle.std.proofs.lemmas.Result.{err_from_is_err_and, IfOk-weaker}
-use Rattle.fetch_store.specs.Faults.{Rose}
+use Rattle.fetch_base.specs.Faults.{Rose}
 use Rattle.fetch_clone.specs.Initial.{IsInitial, IsNew, IsUnopened, IsUnready, is_init_fault}
 use Rattle.fetch_clone.proofs.Opened.{each-err, no-fault, unopened, unread, unread-fault}
 use Rattle.fetch_clone.proofs.init.opening.open_new.Goals as goal

@@ -1,5 +1,5 @@
 use Rattle.std.proofs.Common.{◌∙◌, sym, arith}
-use Rattle.fetch_store.specs.Faults.{Counts-then}
+use Rattle.fetch_base.specs.Faults.{Counts-then}
 use Rattle.fetch_create.proofs.Steps.{next-step}
 use Rattle.fetch_create.proofs.create.run.perform.Goals as goal
 

@@ -1,5 +1,5 @@
 use Rattle.std.proofs.Common.{◌≡◌, take}
-use Rattle.fetch_store.specs.Faults.{Counts}
+use Rattle.fetch_base.specs.Faults.{Counts}
 use Rattle.fetch_create.specs.Creation.{Reaches}
 use Rattle.fetch_create.proofs.create.run.perform.Given as goal
 

@@ -1,6 +1,6 @@
 use Rattle.std.proofs.Common.{◌≡◌, ◌+◌, List, [], ◌∷◌, ◌++◌, length, Option, Some, None, Result, Ok, Err, OnErr, sym, ap, subst, ◌∙◌, arith, append_assoc, length-append}
 use Rattle.std.specs.Option.{option_to_list}
-use Rattle.fetch_store.specs.declared.id.ObjectId.{ObjectId}
+use Rattle.fetch_base.specs.declared.id.ObjectId.{ObjectId}
 use Rattle.fetch_negotiate.specs.declared.algorithm.Algorithm.{Algorithm}
 use Rattle.fetch_negotiate.specs.Any.{algorithm_of, given_by, offer_of, so_far_of}
 use Rattle.fetch_negotiate.proofs.Windowing.{IsTelling, broken_at, ended_at, full_at, telling_further, told_haves, told_later}

@@ -1,5 +1,5 @@
 use Rattle.std.proofs.Common.{List, sym, subst, ◌∙◌}
-use Rattle.fetch_store.specs.declared.id.ObjectId.{ObjectId}
+use Rattle.fetch_base.specs.declared.id.ObjectId.{ObjectId}
 use Rattle.fetch_negotiate.specs.Reading.{Table, IsTold, read_in}
 use Rattle.fetch_negotiate.specs.Sharing.{Covers}
 use Rattle.fetch_negotiate.specs.Walking.{so_far_in}

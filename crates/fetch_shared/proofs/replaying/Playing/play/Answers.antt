@@ -1,6 +1,6 @@
 use Rattle.std.proofs.Common.{List, ◌++◌, map, refl, ap, ap₂, ◌∙◌}
 use Rattle.fetch_store.specs.Borders.{merged}
-use Rattle.fetch_store.specs.declared.id.ObjectId.{ObjectId}
+use Rattle.fetch_base.specs.declared.id.ObjectId.{ObjectId}
 use Rattle.fetch_shared.specs.Deletions.{deletion}
 use Rattle.fetch_shared.proofs.Playing.{taken, deleted}
 use Rattle.fetch_shared.proofs.replaying.Playing.play.Goals as goal

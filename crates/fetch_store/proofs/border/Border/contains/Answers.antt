@@ -1,9 +1,9 @@
 use Rattle.std.proofs.Common.{sym, ap, subst, ◌∙◌}
 use Rattle.std.specs.List.Sorted.{IsStrictlySortedBy, IsBinarySearchResult}
 use Rattle.std.specs.FinSet as set
-use Rattle.fetch_store.specs.Stores.{id_cmp}
-use Rattle.fetch_store.proofs.Ids.{id_cmp_total}
-use Rattle.fetch_store.proofs.Orders.{cmp_is}
+use Rattle.fetch_base.specs.Id.{id_cmp}
+use Rattle.fetch_base.proofs.Ids.{id_cmp_total}
+use Rattle.fetch_base.proofs.Orders.{cmp_is}
 use Rattle.fetch_store.proofs.Borders.{named, searched_for}
 use Rattle.fetch_store.proofs.border.Border.contains.Goals as goal
 

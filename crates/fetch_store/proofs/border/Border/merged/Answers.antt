@@ -1,6 +1,6 @@
 use Rattle.std.proofs.Common.{◌≡◌, ◌++◌, List, filter, not, ap, ◌∙◌}
 use Rattle.std.specs.FinSet as set
-use Rattle.fetch_store.specs.declared.id.ObjectId.{ObjectId}
+use Rattle.fetch_base.specs.declared.id.ObjectId.{ObjectId}
 use Rattle.fetch_store.specs.Borders.{IdSet, set_of}
 use Rattle.fetch_store.proofs.Borders.{kept_merged}
 use Rattle.fetch_store.proofs.border.Border.merged.Goals as goal

@@ -1,7 +1,7 @@
 use Rattle.std.proofs.Common.{◌++◌, List, sym, ap, subst, ◌∙◌}
 use Rattle.std.specs.FinMap.{is_sorted, entries}
-use Rattle.fetch_store.specs.declared.id.ObjectId.{ObjectId}
-use Rattle.fetch_store.specs.Stores.{id_cmp}
+use Rattle.fetch_base.specs.declared.id.ObjectId.{ObjectId}
+use Rattle.fetch_base.specs.Id.{id_cmp}
 use Rattle.fetch_store.specs.Entries.{IsInOrder}
 use Rattle.fetch_store.specs.Graph.{Node}
 use Rattle.fetch_store.proofs.Arranged.{truth}

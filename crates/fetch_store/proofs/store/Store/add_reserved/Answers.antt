@@ -1,6 +1,6 @@
 use Rattle.std.proofs.Common.{rules, ◌≡◌, None, sym, ap, ◌∙◌, subst, arith}
 use Rattle.std.specs.FinMap.{len}
-use Rattle.fetch_store.specs.declared.id.Kind.{Kind}
+use Rattle.fetch_base.specs.declared.id.Kind.{Kind}
 use Rattle.fetch_store.specs.Stores.{StoreValue, AreOf, map_of, collision}
 use Rattle.fetch_store.specs.Buffers.{entries_in}
 use Rattle.fetch_store.proofs.Buffers.{len-lent}

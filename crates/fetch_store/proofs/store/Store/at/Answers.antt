@@ -2,11 +2,12 @@ use Rattle.std.proofs.Common.{◌≡◌, ◌+◌, ◌<◌, ◌≤◌, ℕ, List,
 use Rattle.std.specs.Prelude.{option_map}
 use Rattle.std.specs.FinMap.{find, get, is_sorted, keys, len}
 use Rattle.std.proofs.lemmas.List.{get_or_default, get_or-map}
-use Rattle.fetch_store.specs.declared.id.ObjectId.{ObjectId}
+use Rattle.fetch_base.specs.declared.id.ObjectId.{ObjectId}
 use Rattle.fetch_store.specs.declared.span.Span.{Span}
 use Rattle.fetch_store.specs.Buffers.{lent}
 use Rattle.fetch_store.specs.Objects.{Stored}
-use Rattle.fetch_store.specs.Stores.{Entries, StoreValue, id_cmp}
+use Rattle.fetch_store.specs.Stores.{Entries, StoreValue}
+use Rattle.fetch_base.specs.Id.{id_cmp}
 use Rattle.fetch_store.proofs.Arranged.{consistent_in_order, order_of}
 use Rattle.fetch_store.proofs.Buffers.{entries-lent, get-lent, ids-lent, len-lent, lent_at}
 use Rattle.fetch_store.proofs.store.Store.at.Goals as goal

@@ -1,7 +1,8 @@
 use Rattle.std.proofs.Common.{sym, ap, ◌∙◌}
 use Rattle.std.specs.Prelude.{is_some}
 use Rattle.std.specs.FinMap.{get, find}
-use Rattle.fetch_store.specs.Stores.{StoreValue, id_cmp}
+use Rattle.fetch_store.specs.Stores.{StoreValue}
+use Rattle.fetch_base.specs.Id.{id_cmp}
 use Rattle.fetch_store.specs.Buffers.{Index, lent}
 use Rattle.fetch_store.proofs.Finds.{is_some-copied, is_some-mapped}
 use Rattle.fetch_store.proofs.Buffers.{get-lent}

@@ -3,7 +3,8 @@ use Rattle.std.specs.Prelude.{option_map}
 use Rattle.std.specs.FinMap.{get, find, len}
 use Rattle.fetch_store.specs.Objects.{Stored, IsObject}
 use Rattle.fetch_store.specs.References.{seen}
-use Rattle.fetch_store.specs.Stores.{StoreValue, id_cmp}
+use Rattle.fetch_store.specs.Stores.{StoreValue}
+use Rattle.fetch_base.specs.Id.{id_cmp}
 use Rattle.fetch_store.specs.Buffers.{Index, lent}
 use Rattle.fetch_store.proofs.Buffers.{get-lent, lent_at, len-lent}
 use Rattle.fetch_store.proofs.store.Store.find_counted.Goals as goal

@@ -1,10 +1,11 @@
 use Rattle.std.proofs.Common.{sym, ap, subst, ◌∙◌, map}
 use Rattle.std.specs.FinMap.{keys}
 use Rattle.std.specs.List.Sorted.{IsStrictlySortedBy}
-use Rattle.fetch_store.specs.declared.id.ObjectId.{ObjectId}
+use Rattle.fetch_base.specs.declared.id.ObjectId.{ObjectId}
 use Rattle.fetch_store.specs.declared.span.Span.{Span}
 use Rattle.fetch_store.specs.Objects.{Stored}
-use Rattle.fetch_store.specs.Stores.{id_cmp, Entries, StoreValue}
+use Rattle.fetch_store.specs.Stores.{Entries, StoreValue}
+use Rattle.fetch_base.specs.Id.{id_cmp}
 use Rattle.fetch_store.specs.Buffers.{Index}
 use Rattle.fetch_store.proofs.Keys.{keys-rise}
 use Rattle.fetch_store.proofs.Buffers.{entries-lent, ids-lent}

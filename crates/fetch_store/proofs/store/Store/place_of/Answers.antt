@@ -1,11 +1,12 @@
 use Rattle.std.proofs.Common.{◌≡◌, ◌<◌, map, length, get_or, None, sym, ap, subst, ◌∙◌}
 use Rattle.std.specs.Prelude.{is_some, IfSome, MatchOption}
 use Rattle.std.specs.FinMap.{contains_key, find, get, keys, len}
-use Rattle.fetch_store.specs.declared.id.ObjectId.{ObjectId}
+use Rattle.fetch_base.specs.declared.id.ObjectId.{ObjectId}
 use Rattle.fetch_store.specs.declared.span.Span.{Span}
 use Rattle.fetch_store.specs.Buffers.{Index, lent}
 use Rattle.fetch_store.specs.Objects.{Stored}
-use Rattle.fetch_store.specs.Stores.{Entries, StoreValue, id_cmp}
+use Rattle.fetch_store.specs.Stores.{Entries, StoreValue}
+use Rattle.fetch_base.specs.Id.{id_cmp}
 use Rattle.fetch_store.proofs.Buffers.{entries-lent, get-lent, ids-lent, len-lent}
 use Rattle.fetch_store.proofs.Finds.{is_some-mapped}
 use Rattle.fetch_store.proofs.Marking.{placed}

@@ -1,10 +1,11 @@
 use Rattle.std.proofs.Common.{◌≡◌, true, false, Option, Some, None, refl, sym, ap, ◌∙◌}
 use Rattle.std.specs.Prelude.{is_some}
 use Rattle.std.specs.FinMap.{find, get, contains_key}
-use Rattle.fetch_store.specs.declared.id.ObjectId.{ObjectId}
+use Rattle.fetch_base.specs.declared.id.ObjectId.{ObjectId}
 use Rattle.fetch_store.specs.Objects.{Stored}
 use Rattle.fetch_store.specs.References.{seen}
-use Rattle.fetch_store.specs.Stores.{id_cmp, Entries, ObjectMap, add_all, first_some}
+use Rattle.fetch_store.specs.Stores.{Entries, ObjectMap, add_all, first_some}
+use Rattle.fetch_base.specs.Id.{id_cmp}
 use Rattle.fetch_store.proofs.Additions.{get-add_all}
 use Rattle.fetch_store.proofs.Finds.{is_some-mapped}
 use Rattle.fetch_store.proofs.take.JoinedHeld.holds.Goals as goal

@@ -1,6 +1,7 @@
 use Rattle.std.proofs.Common.{sym, ap, ◌∙◌}
 use Rattle.std.specs.FinMap.{find, get}
-use Rattle.fetch_store.specs.Stores.{id_cmp, ObjectMap, first_some}
+use Rattle.fetch_store.specs.Stores.{ObjectMap, first_some}
+use Rattle.fetch_base.specs.Id.{id_cmp}
 use Rattle.fetch_store.proofs.Additions.{get-add_all}
 use Rattle.fetch_store.proofs.take.JoinedHeld.object.Goals as goal
 

@@ -1,5 +1,5 @@
 use Rattle.std.proofs.Common.{◌≡◌, ◌+◌, ◌≤◌, ℕ, List, [], ◌∷◌, refl, sym, subst, arith}
-use Rattle.fetch_store.specs.declared.id.ObjectId.{ObjectId}
+use Rattle.fetch_base.specs.declared.id.ObjectId.{ObjectId}
 use Rattle.fetch_store.specs.Graph.{Node}
 use Rattle.fetch_update.specs.Dated.{commit_at, seconds_in}
 use Rattle.fetch_update.specs.Walks.{State, state, Grows, Keeps, room, work}

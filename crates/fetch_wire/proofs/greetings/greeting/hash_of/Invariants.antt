@@ -1,5 +1,5 @@
 use Rattle.std.proofs.Common.{◌≡◌, drop, fold}
-use Rattle.fetch_store.specs.declared.id.Kind.TheVariants.{Sha1}
+use Rattle.fetch_base.specs.declared.id.Kind.TheVariants.{Sha1}
 use Rattle.fetch_wire.specs.Greetings.{hash_after}
 use Rattle.fetch_wire.proofs.greetings.greeting.hash_of.Given as goal
 

@@ -1,6 +1,6 @@
 use Rattle.std.proofs.Common.{[]}
-use Rattle.fetch_store.specs.declared.id.ObjectId.TheVariants as ids
-use Rattle.fetch_store.proofs.Orders.{cmp_is}
+use Rattle.fetch_base.specs.declared.id.ObjectId.TheVariants as ids
+use Rattle.fetch_base.proofs.Orders.{cmp_is}
 use Rattle.fetch_wire.proofs.KnownIds.{once_at}
 use Rattle.fetch_wire.proofs.replies.haves.each_once.Goals as goal
 

@@ -1,5 +1,5 @@
 use Rattle.std.proofs.Common.{[]}
-use Rattle.fetch_store.specs.declared.id.ObjectId.TheVariants as ids
+use Rattle.fetch_base.specs.declared.id.ObjectId.TheVariants as ids
 use Rattle.fetch_wire.proofs.KnownIds.{grown_at}
 use Rattle.fetch_wire.proofs.replies.haves.set_of.Goals as goal
 

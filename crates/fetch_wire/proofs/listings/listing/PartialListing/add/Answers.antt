@@ -1,6 +1,6 @@
 use Rattle.std.proofs.Common.{ℕ, cond, not, ◌||◌, List, [], ◌∷◌, ◌++◌, ap, ◌∙◌}
-use Rattle.fetch_store.specs.Hashing.{digest}
-use Rattle.fetch_store.specs.declared.id.Kind.TheVariants.{Sha256}
+use Rattle.fetch_base.specs.Hashing.{digest}
+use Rattle.fetch_base.specs.declared.id.Kind.TheVariants.{Sha256}
 use Rattle.fetch_wire.specs.declared.listings.reference.Ref.{Ref}
 use Rattle.fetch_wire.specs.Listings.{is_listed}
 use Rattle.fetch_wire.proofs.Listed.{grown}

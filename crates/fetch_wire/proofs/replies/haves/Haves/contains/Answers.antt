@@ -1,5 +1,5 @@
 use Rattle.std.proofs.Common.{List, ap, ◌∙◌}
-use Rattle.fetch_store.specs.declared.id.ObjectId.{ObjectId}
+use Rattle.fetch_base.specs.declared.id.ObjectId.{ObjectId}
 use Rattle.fetch_wire.specs.KnownIds.{has_id}
 use Rattle.fetch_wire.proofs.KnownIds.{contains_is}
 use Rattle.fetch_wire.proofs.replies.haves.Haves.contains.Goals as goal

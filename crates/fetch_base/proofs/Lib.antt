@@ -1,0 +1,10 @@
+pub mod Numbers
+pub mod Ids
+pub mod Digests
+pub mod LineLaws
+pub mod LastLaws
+pub mod Orders
+pub mod Decimals
+pub mod Copies
+pub mod HexTables
+pub mod Words

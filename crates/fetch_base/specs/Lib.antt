@@ -1,0 +1,10 @@
+pub mod Id
+pub mod Hashing
+pub mod Scan
+pub mod Lines
+pub mod Faults
+pub mod Answers
+pub mod Calls
+pub mod Distinct
+pub mod Digits
+pub mod Kinds

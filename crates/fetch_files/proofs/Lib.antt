@@ -1,0 +1,4 @@
+pub mod Slashes
+pub mod FiniteMaps
+pub mod TreeChanges
+pub mod Rooted

@@ -1,0 +1,4 @@
+pub mod Paths
+pub mod Trees
+pub mod TreeCodes
+pub mod FileCalls
