@@ -3,7 +3,7 @@ use Rattle.std.specs.Prelude.{ℕ, ◌+◌, ◌-◌, ◌/◌, List}
 use Rattle.fetch_base.specs.declared.id.Kind.TheVariants.{Sha1}
 use Rattle.fetch_pack.specs.Records.{pack_text, payloads_of}
 use Rattle.fetch_pack.specs.declared.version.PackVersion.TheVariants.{V1}
-use Rattle.fetch_wire.specs.Cutting.{in_pieces}
+use Rattle.fetch_lines.specs.Cutting.{in_pieces}
 use Rattle.fetch_bench.specs.Commits.{tip, commits_after, line_of}
 use Rattle.fetch_bench.specs.Served.{branches, stream_of}
 use Rattle.fetch_bench.specs.declared.generated.Generated.{Generated}

@@ -1,14 +1,14 @@
 -- What a server of the line says.
 use Rattle.std.specs.Prelude.{ℕ, List, [], ◌∷◌, ◌++◌, map, codes, Option, Some, option_to_list, option_map}
 use Rattle.fetch_base.specs.declared.id.ObjectId.{ObjectId}
-use Rattle.fetch_wire.specs.declared.greetings.handshake.Capability.{Capability}
-use Rattle.fetch_wire.specs.declared.lines.line.Line.{Line}
-use Rattle.fetch_wire.specs.declared.listings.reference.Ref.{Ref}
-use Rattle.fetch_wire.specs.declared.listings.reference.Ref.TheVariants.{Direct}
-use Rattle.fetch_wire.specs.Bands.{Piece, pack_lines}
-use Rattle.fetch_wire.specs.Cutting.{in_pieces}
-use Rattle.fetch_wire.specs.ServerLines.{greeting_lines, listing_lines_of}
-use Rattle.fetch_wire.specs.Written.{lines_text}
+use Rattle.fetch_lines.specs.declared.greetings.handshake.Capability.{Capability}
+use Rattle.fetch_lines.specs.declared.lines.line.Line.{Line}
+use Rattle.fetch_lines.specs.declared.listings.reference.Ref.{Ref}
+use Rattle.fetch_lines.specs.declared.listings.reference.Ref.TheVariants.{Direct}
+use Rattle.fetch_lines.specs.Bands.{Piece, pack_lines}
+use Rattle.fetch_lines.specs.Cutting.{in_pieces}
+use Rattle.fetch_lines.specs.ServerLines.{greeting_lines, listing_lines_of}
+use Rattle.fetch_lines.specs.Written.{lines_text}
 
 -- a capability with a value
 abbrev pub capability : List ℕ → List ℕ → Capability

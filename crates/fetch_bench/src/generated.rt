@@ -10,9 +10,9 @@ ghost use Rattle.fetch_bench.specs.Generated as spec;
 
 use crate::commits::{empty_line, push_commits};
 use crate::served::stream_of;
+use fetch_lines::in_pieces;
 use fetch_pack::{PackVersion, write_pack_of};
 use fetch_store::{Kind, List, NoMemory, Object, ObjectId, Text};
-use fetch_wire::in_pieces;
 use std::alloc::Global;
 
 /// How many bytes of what the server says come at once.

@@ -1,16 +1,16 @@
 //! What a server of the line says.
 
 ghost use Rattle.std.specs.Prelude.{◌≡◌, ◌++◌, map, IfOk, OnOk};
-ghost use Rattle.fetch_wire.specs.Bands.{Piece, band_line, pack_lines};
-ghost use Rattle.fetch_wire.specs.Cutting.{in_pieces};
-ghost use Rattle.fetch_wire.specs.LineViews.{line_of};
-ghost use Rattle.fetch_wire.specs.Written.{line_text, lines_text};
+ghost use Rattle.fetch_lines.specs.Bands.{Piece, band_line, pack_lines};
+ghost use Rattle.fetch_lines.specs.Cutting.{in_pieces};
+ghost use Rattle.fetch_lines.specs.LineViews.{line_of};
+ghost use Rattle.fetch_lines.specs.Written.{line_text, lines_text};
 ghost use Rattle.fetch_bench.specs.Served as spec;
 
-use fetch_store::{NoMemory, ObjectId, Text};
-use fetch_wire::{
+use fetch_lines::{
     Capability, Line, LineRef, Ref, greeting_lines, in_pieces, listing_lines, write_line,
 };
+use fetch_store::{NoMemory, ObjectId, Text};
 use std::alloc::Global;
 
 /// How many bytes of a pack a line has.

@@ -18,14 +18,14 @@ use Rattle.fetch_base.specs.declared.object_kind.ObjectKind.TheVariants.{Tree}
 use Rattle.fetch_base.proofs.Digests.{length-digest}
 use Rattle.fetch_pack.specs.Records.{Payload as PackPayload, body, pack_text, payload_of, payloads_of, record_text, under_its_id, under_their_ids}
 use Rattle.fetch_pack.specs.declared.version.PackVersion.TheVariants.{V1}
-use Rattle.fetch_wire.specs.Bands.{Piece, band_line, pack_lines}
-use Rattle.fetch_wire.specs.Cutting.{in_pieces, pieces_within}
-use Rattle.fetch_wire.specs.Requests.{sent, text_line}
-use Rattle.fetch_wire.specs.ServerLines.{greeting_lines, listing_lines_of, ref_text}
-use Rattle.fetch_wire.specs.Written.{four_digits, line_text, lines_text, too_long_in}
-use Rattle.fetch_wire.specs.declared.lines.line.Line.{Line}
-use Rattle.fetch_wire.specs.declared.lines.line.Line.TheVariants.{Payload, Flush, Delim}
-use Rattle.fetch_wire.specs.declared.listings.reference.Ref.TheVariants.{Direct}
+use Rattle.fetch_lines.specs.Bands.{Piece, band_line, pack_lines}
+use Rattle.fetch_lines.specs.Cutting.{in_pieces, pieces_within}
+use Rattle.fetch_lines.specs.Requests.{sent, text_line}
+use Rattle.fetch_lines.specs.ServerLines.{greeting_lines, listing_lines_of, ref_text}
+use Rattle.fetch_lines.specs.Written.{four_digits, line_text, lines_text, too_long_in}
+use Rattle.fetch_lines.specs.declared.lines.line.Line.{Line}
+use Rattle.fetch_lines.specs.declared.lines.line.Line.TheVariants.{Payload, Flush, Delim}
+use Rattle.fetch_lines.specs.declared.listings.reference.Ref.TheVariants.{Direct}
 use Rattle.fetch_bench.specs.Commits.{signature, text_of, commit_after, commits_after, line_of, tip, tree_id}
 use Rattle.fetch_bench.specs.Generated.{second_half, server_stream, generated}
 use Rattle.fetch_bench.specs.Served.{capabilities, listed, branches}

@@ -7,11 +7,11 @@ use Rattle.fetch_base.specs.Digits.{hex_of}
 use Rattle.fetch_base.specs.declared.id.ObjectId.{ObjectId}
 use Rattle.fetch_pack.specs.Texts.{Keeps}
 use Rattle.fetch_pack.proofs.Growing.{keeps_front}
-use Rattle.fetch_wire.specs.declared.lines.line.Line.{Line}
-use Rattle.fetch_wire.specs.declared.lines.line.Line.TheVariants.{Payload, Flush, Delim}
-use Rattle.fetch_wire.specs.Requests.{sent}
-use Rattle.fetch_wire.specs.Written.{line_text, lines_text}
-use Rattle.fetch_wire.proofs.Cut.{cut_more, cut_none}
+use Rattle.fetch_lines.specs.declared.lines.line.Line.{Line}
+use Rattle.fetch_lines.specs.declared.lines.line.Line.TheVariants.{Payload, Flush, Delim}
+use Rattle.fetch_lines.specs.Requests.{sent}
+use Rattle.fetch_lines.specs.Written.{line_text, lines_text}
+use Rattle.fetch_lines.proofs.Cut.{cut_more, cut_none}
 use Rattle.fetch_bench.specs.declared.generated.Generated.{Generated}
 use Rattle.fetch_bench_scene.specs.BenchText.{tracking_text, remote_texts, local_lines, pack_of, piece_lines, scene_lines}
 

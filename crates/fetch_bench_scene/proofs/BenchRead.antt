@@ -7,8 +7,8 @@ use Rattle.fetch_store.specs.Collisions.{HasDistinctIds}
 use Rattle.fetch_specs.specs.Names.{is_name, lock}
 use Rattle.fetch_specs.specs.Parses.{parsed, id_named}
 use Rattle.fetch_specs.specs.Specs.{Spec}
-use Rattle.fetch_wire.specs.Cutting.{in_pieces}
-use Rattle.fetch_wire.proofs.Cut.{are_the_bytes}
+use Rattle.fetch_lines.specs.Cutting.{in_pieces}
+use Rattle.fetch_lines.proofs.Cut.{are_the_bytes}
 use Rattle.fetch_bench.specs.Commits.{line_of, tip}
 use Rattle.fetch_bench.specs.Generated.{server_stream, generated}
 use Rattle.fetch_bench.specs.declared.generated.Generated.{Generated}

@@ -3,13 +3,13 @@ use Rattle.std.proofs.Common.{◌≡◌, ◌≢◌, ℕ, zero, suc, ◌+◌, ◌
 use Rattle.std.specs.List.{AllByRecursion}
 use Rattle.std.specs.Prelude.{Result}
 use Rattle.std.specs.Result.{result_ok}
-use Rattle.fetch_wire.specs.declared.lines.line.Line.{Line}
-use Rattle.fetch_wire.specs.declared.lines.line.Line.TheVariants.{Payload, Flush, Delim, End}
-use Rattle.fetch_wire.specs.declared.lines.section.LineError.{LineError}
-use Rattle.fetch_wire.specs.Lines.{line_at, line_len}
-use Rattle.fetch_wire.specs.LineLaws.{least}
-use Rattle.fetch_wire.specs.Written.{line_text, lines_text, too_long_in, four_digits}
-use Rattle.fetch_wire.specs.WrittenLaws.{written-line_at}
+use Rattle.fetch_lines.specs.declared.lines.line.Line.{Line}
+use Rattle.fetch_lines.specs.declared.lines.line.Line.TheVariants.{Payload, Flush, Delim, End}
+use Rattle.fetch_lines.specs.declared.lines.section.LineError.{LineError}
+use Rattle.fetch_lines.specs.Lines.{line_at, line_len}
+use Rattle.fetch_lines.specs.LineLaws.{least}
+use Rattle.fetch_lines.specs.Written.{line_text, lines_text, too_long_in, four_digits}
+use Rattle.fetch_lines.specs.WrittenLaws.{written-line_at}
 use Rattle.hex.specs.Hex.{encode_with}
 use Rattle.fetch_scene.specs.SceneLines.{Placed, Lines, unbounded, line_found, onto, lines_within, lines_of}
 

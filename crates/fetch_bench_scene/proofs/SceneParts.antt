@@ -21,13 +21,13 @@ use Rattle.fetch_specs.specs.Specs.{Spec}
 use Rattle.fetch_specs.specs.declared.tags.Tags.TheVariants as tags
 use Rattle.fetch_refs.specs.declared.target.Target.TheVariants.{Object}
 use Rattle.fetch_pack.specs.Reading.{read}
-use Rattle.fetch_wire.specs.declared.lines.line.Line.{Line}
-use Rattle.fetch_wire.specs.declared.lines.line.Line.TheVariants.{Payload, Flush, Delim}
-use Rattle.fetch_wire.specs.Lines.{line_len}
-use Rattle.fetch_wire.specs.Requests.{sent, text_line}
-use Rattle.fetch_wire.specs.Texts.{without_lf}
-use Rattle.fetch_wire.proofs.IdTexts.{hex_all}
-use Rattle.fetch_wire.proofs.Moving.{lf_last}
+use Rattle.fetch_lines.specs.declared.lines.line.Line.{Line}
+use Rattle.fetch_lines.specs.declared.lines.line.Line.TheVariants.{Payload, Flush, Delim}
+use Rattle.fetch_lines.specs.Lines.{line_len}
+use Rattle.fetch_lines.specs.Requests.{sent, text_line}
+use Rattle.fetch_lines.specs.Texts.{without_lf}
+use Rattle.fetch_replies.proofs.IdTexts.{hex_all}
+use Rattle.fetch_replies.proofs.Moving.{lf_last}
 use Rattle.fetch_scene.specs.Gives.{◌>>=◌}
 use Rattle.fetch_scene.specs.LineKinds.{full_name_in, object_in, target_in, reference_in, reference_of, border_of, worktree_of, tags_named, tags_of, refspec_in, refspec_of}
 use Rattle.fetch_scene.specs.Scene.{local_of, bytes_in, objects_in, pack_objects_of, objects_of, remote_of, payloads_of, end_of, pieces_of, talk_of, scene_with, scene_in}

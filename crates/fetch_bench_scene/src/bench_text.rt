@@ -4,9 +4,9 @@ ghost use Rattle.std.specs.Prelude.{◌≡◌, ◌<◌, ◌≤◌, ◌∷◌, �
 ghost use Rattle.fetch_pack.specs.Records.{Fits, payloads_of};
 ghost use Rattle.fetch_pack.specs.Texts.{Keeps};
 ghost use Rattle.fetch_pack.specs.declared.version.PackVersion.TheVariants.{V1};
-ghost use Rattle.fetch_wire.specs.Requests.{sent};
-ghost use Rattle.fetch_wire.specs.Written.{lines_text};
-ghost use Rattle.fetch_wire.specs.declared.lines.line.Line.TheVariants as lines;
+ghost use Rattle.fetch_lines.specs.Requests.{sent};
+ghost use Rattle.fetch_lines.specs.Written.{lines_text};
+ghost use Rattle.fetch_lines.specs.declared.lines.line.Line.TheVariants as lines;
 ghost use Rattle.fetch_bench_scene.specs.BenchText as spec;
 
 use crate::bench::MAX_BENCH;

@@ -13,10 +13,10 @@ use Rattle.fetch_store.specs.Borders.{ids_of}
 use Rattle.fetch_base.specs.Id.{id_cmp}
 use Rattle.fetch_refs.specs.declared.target.Target.{Target}
 use Rattle.fetch_refs.specs.Names.{name_cmp}
-use Rattle.fetch_wire.specs.declared.lines.line.Line.{Line}
-use Rattle.fetch_wire.specs.declared.lines.line.Line.TheVariants.{Payload, Flush, Delim}
-use Rattle.fetch_wire.specs.Requests.{sent, text_line}
-use Rattle.fetch_wire.specs.Written.{four_digits, line_text, lines_text}
+use Rattle.fetch_lines.specs.declared.lines.line.Line.{Line}
+use Rattle.fetch_lines.specs.declared.lines.line.Line.TheVariants.{Payload, Flush, Delim}
+use Rattle.fetch_lines.specs.Requests.{sent, text_line}
+use Rattle.fetch_lines.specs.Written.{four_digits, line_text, lines_text}
 use Rattle.fetch_check.specs.Bundles.{Said, said_lines, lines_before_pack, head_texts, hash_word, ref_text, ref_line, border_text, border_line}
 use Rattle.fetch_check.specs.Reading.{AreReferences, AreBorderIds, ArePieces, BeginBundle, BreaksAt, CanStand, Says, pack_place}
 use Rattle.fetch_check.specs.Scanning.{IsWritten, Stands, Stand, AreRead}

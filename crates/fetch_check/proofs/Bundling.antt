@@ -24,10 +24,10 @@ use Rattle.fetch_store.proofs.Pigeons.{no_more, are_distinct}
 use Rattle.fetch_pack.specs.Records.{pack_text, payloads_of}
 use Rattle.fetch_pack.specs.declared.version.PackVersion.TheVariants.{V1, V2}
 use Rattle.fetch_refs.specs.Names.{Names}
-use Rattle.fetch_wire.specs.declared.lines.line.Line.{Line}
-use Rattle.fetch_wire.specs.declared.lines.line.Line.TheVariants.{Flush, Delim}
-use Rattle.fetch_wire.specs.Requests.{text_line, sent}
-use Rattle.fetch_wire.specs.Written.{line_text, lines_text}
+use Rattle.fetch_lines.specs.declared.lines.line.Line.{Line}
+use Rattle.fetch_lines.specs.declared.lines.line.Line.TheVariants.{Flush, Delim}
+use Rattle.fetch_lines.specs.Requests.{text_line, sent}
+use Rattle.fetch_lines.specs.Written.{line_text, lines_text}
 use Rattle.fetch_reach.specs.Named.{AreOwnIds, IsOwnId}
 use Rattle.fetch_reach.specs.Sets.{is_among}
 use Rattle.fetch_reach.specs.Stored.{CanHold, objects_at, entries_at}

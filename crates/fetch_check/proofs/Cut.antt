@@ -3,8 +3,8 @@ use Rattle.std.proofs.Common.{◌≡◌, ℕ, ◌+◌, ◌*◌, ◌-◌, ◌≤�
 use Rattle.std.proofs.lemmas.Bool.{cases_lt}
 use Rattle.std.proofs.lemmas.List.{length-append, length-drop, length-take, length-take-le, take-take, take-append-le, drop_all, drop_at, drop-drop}
 use Rattle.std.proofs.lemmas.Slice.{between_is}
-use Rattle.fetch_wire.specs.Written.{line_text, lines_text}
-use Rattle.fetch_wire.specs.declared.lines.line.Line.TheVariants.{Payload}
+use Rattle.fetch_lines.specs.Written.{line_text, lines_text}
+use Rattle.fetch_lines.specs.declared.lines.line.Line.TheVariants.{Payload}
 use Rattle.fetch_check.specs.Bundles.{piece_lines}
 use Rattle.fetch_check.proofs.Digits.{line_size}
 use Rattle.fetch_check.proofs.Lines.{piece_more, piece_none}

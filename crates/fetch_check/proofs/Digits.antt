@@ -11,13 +11,13 @@ use Rattle.hex.specs.Hex.{IsBytes, encode_with, encode_lower, decode_sized, deco
 use Rattle.hex.specs.declared.error.FromHexError.{FromHexError}
 use Rattle.hex.proofs.HexLemmas.{decode_of-even, decode_sized-ok, decode_sized-twice, decode_pairs-ok}
 use Rattle.fetch_refs.proofs.LowerHex.{written_again, no_capital}
-use Rattle.fetch_wire.specs.declared.lines.line.Line.{Line}
-use Rattle.fetch_wire.specs.declared.lines.line.Line.TheVariants.{Payload, Flush, Delim, End}
-use Rattle.fetch_wire.specs.declared.lines.section.LineError.{LineError}
-use Rattle.fetch_wire.specs.Lines.{number_in, line_at, line_len}
-use Rattle.fetch_wire.specs.LineLaws.{line_at-is}
-use Rattle.fetch_wire.specs.Written.{four_digits, count_of, payload_of, line_text, too_long_in}
-use Rattle.fetch_wire.specs.WrittenLaws.{written-line_at}
+use Rattle.fetch_lines.specs.declared.lines.line.Line.{Line}
+use Rattle.fetch_lines.specs.declared.lines.line.Line.TheVariants.{Payload, Flush, Delim, End}
+use Rattle.fetch_lines.specs.declared.lines.section.LineError.{LineError}
+use Rattle.fetch_lines.specs.Lines.{number_in, line_at, line_len}
+use Rattle.fetch_lines.specs.LineLaws.{line_at-is}
+use Rattle.fetch_lines.specs.Written.{four_digits, count_of, payload_of, line_text, too_long_in}
+use Rattle.fetch_lines.specs.WrittenLaws.{written-line_at}
 use Rattle.fetch_check.specs.Scanning.{Begins, BeginsNone}
 
 -- two bytes that write a number

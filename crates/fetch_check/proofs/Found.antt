@@ -10,9 +10,9 @@ use Rattle.fetch_base.specs.declared.id.ObjectId.{ObjectId}
 use Rattle.fetch_base.specs.Id.{id_cmp}
 use Rattle.fetch_refs.specs.Names.{name_cmp}
 use Rattle.fetch_refs.specs.declared.target.Target.{Target}
-use Rattle.fetch_wire.specs.declared.lines.line.Line.{Line}
-use Rattle.fetch_wire.specs.declared.lines.line.Line.TheVariants.{Payload}
-use Rattle.fetch_wire.specs.Written.{line_text}
+use Rattle.fetch_lines.specs.declared.lines.line.Line.{Line}
+use Rattle.fetch_lines.specs.declared.lines.line.Line.TheVariants.{Payload}
+use Rattle.fetch_lines.specs.Written.{line_text}
 use Rattle.fetch_check.specs.Bundles.{ref_text, ref_line, border_text, border_line}
 use Rattle.fetch_check.specs.Payloads.{IsOfHash, IsReference, TellsBorder, TellsReference}
 use Rattle.fetch_check.specs.Reading.{AreReferences, AreBorderIds, IsPiece}

@@ -2,11 +2,11 @@
 use Rattle.std.proofs.Common.{◌≡◌, ℕ, ◌≤◌, ◌⊎◌, inl, inr, List, [], ◌∷◌, ◌++◌, length, drop, append_assoc, append-nil, Result, Ok, Err, refl, sym, ap, subst, ◌∙◌, arith}
 use Rattle.std.specs.List.{AllByRecursion}
 use Rattle.std.proofs.lemmas.List.{length-append}
-use Rattle.fetch_wire.specs.declared.lines.line.Line.{Line}
-use Rattle.fetch_wire.specs.declared.lines.section.LineError.{LineError}
-use Rattle.fetch_wire.specs.Lines.{line_at}
-use Rattle.fetch_wire.specs.Written.{line_text, lines_text}
-use Rattle.fetch_wire.specs.WrittenLaws.{written-line_at}
+use Rattle.fetch_lines.specs.declared.lines.line.Line.{Line}
+use Rattle.fetch_lines.specs.declared.lines.section.LineError.{LineError}
+use Rattle.fetch_lines.specs.Lines.{line_at}
+use Rattle.fetch_lines.specs.Written.{line_text, lines_text}
+use Rattle.fetch_lines.specs.WrittenLaws.{written-line_at}
 use Rattle.fetch_check.specs.Scanning.{IsWritten, Stands, Stand}
 use Rattle.fetch_check.proofs.Digits.{within_longest}
 use Rattle.fetch_check.proofs.Lines.{lines_more}

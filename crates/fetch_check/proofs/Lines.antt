@@ -11,10 +11,10 @@ use Rattle.fetch_base.specs.declared.id.ObjectId.{ObjectId}
 use Rattle.fetch_base.specs.Digits.{hex_of}
 use Rattle.fetch_base.specs.Id.{byte_len, bytes_of, kind_of}
 use Rattle.fetch_pack.specs.Texts.{Keeps}
-use Rattle.fetch_wire.specs.declared.lines.line.Line.{Line}
-use Rattle.fetch_wire.specs.declared.lines.line.Line.TheVariants.{Payload}
-use Rattle.fetch_wire.specs.Written.{line_text, lines_text, too_long_in}
-use Rattle.fetch_wire.proofs.Cut.{cut_more, cut_none}
+use Rattle.fetch_lines.specs.declared.lines.line.Line.{Line}
+use Rattle.fetch_lines.specs.declared.lines.line.Line.TheVariants.{Payload}
+use Rattle.fetch_lines.specs.Written.{line_text, lines_text, too_long_in}
+use Rattle.fetch_lines.proofs.Cut.{cut_more, cut_none}
 use Rattle.fetch_check.specs.Bundles.{piece_lines}
 
 pub lines_more : (xs ys : List Line) → lines_text (xs ++ ys) ≡ lines_text xs ++ lines_text ys

@@ -13,10 +13,10 @@ use Rattle.fetch_store.proofs.Borders.{ids_of-set}
 use Rattle.fetch_refs.specs.Names.{Names, name_cmp}
 use Rattle.fetch_refs.proofs.Maps.{entries-sorted, sorted_entries}
 use Rattle.fetch_refs.proofs.Names.{name_cmp_total, name_cmp_exact}
-use Rattle.fetch_wire.specs.declared.lines.line.Line.{Line}
-use Rattle.fetch_wire.specs.declared.lines.line.Line.TheVariants.{Payload, Flush, Delim}
-use Rattle.fetch_wire.specs.Cutting.{in_pieces}
-use Rattle.fetch_wire.specs.Requests.{sent}
+use Rattle.fetch_lines.specs.declared.lines.line.Line.{Line}
+use Rattle.fetch_lines.specs.declared.lines.line.Line.TheVariants.{Payload, Flush, Delim}
+use Rattle.fetch_lines.specs.Cutting.{in_pieces}
+use Rattle.fetch_lines.specs.Requests.{sent}
 use Rattle.fetch_check.specs.Bundles.{Said, said_lines, head_texts, ref_line, border_line}
 use Rattle.fetch_check.specs.Payloads.{IsOfHash, IsReference}
 use Rattle.fetch_check.specs.Reading.{AreReferences, AreBorderIds, ArePieces, CanStand, BeginBundle}

@@ -16,7 +16,7 @@ use Rattle.fetch_pack.specs.declared.version.PackVersion.TheVariants.{V1, V2}
 use Rattle.fetch_pack.specs.Packs.{IsPack, contents_of, entry, entries}
 use Rattle.fetch_pack.specs.Reading.{Contents, is_id, is_memory, once_from, read}
 use Rattle.fetch_pack.specs.Records.{Payload, body, mark, pack_text, payloads_of, version_text}
-use Rattle.fetch_wire.specs.Written.{lines_text}
+use Rattle.fetch_lines.specs.Written.{lines_text}
 use Rattle.fetch_check.specs.Bundles.{Bundled, Said, bundle_text, said_in, said_lines}
 use Rattle.fetch_check.specs.Reading.{CanStand, HoldsWhole, IsBundle, Says, contents_in, pack_read}
 

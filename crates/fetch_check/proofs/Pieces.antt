@@ -3,8 +3,8 @@ use Rattle.std.proofs.Common.{◌≡◌, ℕ, zero, suc, ◌⊎◌, inl, inr, Li
 use Rattle.std.specs.List.{AllByRecursion, concat}
 use Rattle.std.proofs.lemmas.List.{take_all, drop_all, take_at, drop_at, length-take-le}
 use Rattle.std.proofs.lemmas.Bool.{cases_lt}
-use Rattle.fetch_wire.specs.Cutting.{in_pieces, pieces_within}
-use Rattle.fetch_wire.proofs.Cut.{cut, cut_none}
+use Rattle.fetch_lines.specs.Cutting.{in_pieces, pieces_within}
+use Rattle.fetch_lines.proofs.Cut.{cut, cut_none}
 use Rattle.fetch_check.specs.Reading.{IsPiece, ArePieces}
 
 -- ---- pieces are what bytes are cut into

@@ -29,9 +29,9 @@ use Rattle.fetch_pack.specs.declared.version.PackVersion.TheVariants.{V2}
 use Rattle.fetch_pack.specs.Reading.{Contents, read}
 use Rattle.fetch_pack.specs.Records.{Fits, body, pack_text, payloads_of}
 use Rattle.fetch_refs.specs.Names.{Names}
-use Rattle.fetch_wire.specs.declared.lines.line.Line.TheVariants.{Payload, Flush, Delim}
-use Rattle.fetch_wire.specs.Cutting.{in_pieces}
-use Rattle.fetch_wire.specs.Requests.{sent}
+use Rattle.fetch_lines.specs.declared.lines.line.Line.TheVariants.{Payload, Flush, Delim}
+use Rattle.fetch_lines.specs.Cutting.{in_pieces}
+use Rattle.fetch_lines.specs.Requests.{sent}
 use Rattle.fetch_reach.specs.Sets.{is_among}
 use Rattle.fetch_reach.specs.Stored.{entries_at, objects_at}
 use Rattle.fetch_reach.proofs.Written.{is_read}

@@ -16,10 +16,10 @@ use Rattle.fetch_base.proofs.LineLaws.{splits}
 use Rattle.fetch_refs.specs.declared.target.Target.{Target}
 use Rattle.fetch_refs.specs.declared.target.Target.TheVariants.{Object, Symbolic}
 use Rattle.fetch_refs.proofs.LowerHex.{spaceless}
-use Rattle.fetch_wire.specs.declared.lines.line.Line.{Line}
-use Rattle.fetch_wire.specs.declared.lines.line.Line.TheVariants.{Payload, Flush, Delim}
-use Rattle.fetch_wire.specs.Cutting.{in_pieces}
-use Rattle.fetch_wire.specs.Requests.{sent, text_line}
+use Rattle.fetch_lines.specs.declared.lines.line.Line.{Line}
+use Rattle.fetch_lines.specs.declared.lines.line.Line.TheVariants.{Payload, Flush, Delim}
+use Rattle.fetch_lines.specs.Cutting.{in_pieces}
+use Rattle.fetch_lines.specs.Requests.{sent, text_line}
 use Rattle.fetch_check.specs.Bundles.{Said, said_lines, head_texts, target_text, ref_text, ref_line, border_text, border_line}
 use Rattle.fetch_check.specs.Payloads.{IsOfHash, IsTarget, IsReference}
 use Rattle.fetch_check.proofs.Spaces.{spaceless_name}

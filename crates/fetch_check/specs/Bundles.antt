@@ -15,11 +15,11 @@ use Rattle.fetch_pack.specs.declared.version.PackVersion.TheVariants.{V2}
 use Rattle.fetch_refs.specs.declared.target.Target.{Target}
 use Rattle.fetch_refs.specs.declared.target.Target.TheVariants.{Object, Symbolic}
 use Rattle.fetch_refs.specs.Names.{Names}
-use Rattle.fetch_wire.specs.declared.lines.line.Line.{Line}
-use Rattle.fetch_wire.specs.declared.lines.line.Line.TheVariants.{Payload, Flush, Delim}
-use Rattle.fetch_wire.specs.Cutting.{in_pieces}
-use Rattle.fetch_wire.specs.Requests.{sent, text_line}
-use Rattle.fetch_wire.specs.Written.{lines_text}
+use Rattle.fetch_lines.specs.declared.lines.line.Line.{Line}
+use Rattle.fetch_lines.specs.declared.lines.line.Line.TheVariants.{Payload, Flush, Delim}
+use Rattle.fetch_lines.specs.Cutting.{in_pieces}
+use Rattle.fetch_lines.specs.Requests.{sent, text_line}
+use Rattle.fetch_lines.specs.Written.{lines_text}
 use Rattle.fetch_reach.specs.Sets.{is_among}
 use Rattle.fetch_reach.specs.Stored.{entries_at}
 

@@ -5,7 +5,7 @@ use Rattle.fetch_base.specs.declared.id.Kind.{Kind}
 use Rattle.fetch_store.specs.Borders.{IdSet}
 use Rattle.fetch_pack.specs.Reading.{Contents}
 use Rattle.fetch_refs.specs.Names.{Names}
-use Rattle.fetch_wire.specs.declared.lines.line.Line.TheVariants.{Payload}
+use Rattle.fetch_lines.specs.declared.lines.line.Line.TheVariants.{Payload}
 use Rattle.fetch_check.specs.declared.error.BundleError.{BundleError}
 use Rattle.fetch_check.specs.declared.error.BundleError.TheVariants.{Missing, Broken, NameTooLong, Malformed, Pack, NoMemory}
 use Rattle.fetch_check.specs.declared.reading.Parts.{Parts}

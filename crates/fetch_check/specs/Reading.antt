@@ -20,8 +20,8 @@ use Rattle.fetch_pack.specs.Reading.{Contents, read}
 use Rattle.fetch_pack.specs.Records.{body, mark, payloads_of, version_text}
 use Rattle.fetch_refs.specs.Names.{Names, RefsValue, name_cmp}
 use Rattle.fetch_refs.specs.declared.target.Target.{Target}
-use Rattle.fetch_wire.specs.declared.lines.line.Line.{Line}
-use Rattle.fetch_wire.specs.Written.{line_text, lines_text}
+use Rattle.fetch_lines.specs.declared.lines.line.Line.{Line}
+use Rattle.fetch_lines.specs.Written.{line_text, lines_text}
 use Rattle.fetch_check.specs.declared.error.BundleError.{BundleError}
 use Rattle.fetch_check.specs.declared.error.BundleError.TheVariants.{Missing, Broken, NameTooLong, Malformed, Pack, NoMemory}
 use Rattle.fetch_check.specs.declared.reading.Bundle.{Bundle}

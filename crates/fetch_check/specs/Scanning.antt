@@ -4,9 +4,9 @@ use Rattle.std.specs.List.{AllByRecursion}
 use Rattle.std.specs.Option.{option_map_or}
 use Rattle.std.specs.Ordering.{is_lt}
 use Rattle.std.specs.declared.cmp.Ordering.{Ordering}
-use Rattle.fetch_wire.specs.declared.lines.line.Line.{Line}
-use Rattle.fetch_wire.specs.declared.lines.line.Line.TheVariants.{End}
-use Rattle.fetch_wire.specs.Written.{line_text, lines_text, too_long_in}
+use Rattle.fetch_lines.specs.declared.lines.line.Line.{Line}
+use Rattle.fetch_lines.specs.declared.lines.line.Line.TheVariants.{End}
+use Rattle.fetch_lines.specs.Written.{line_text, lines_text, too_long_in}
 
 -- A line that is written: it is no longer than a line may be.
 pub record IsWritten (line : Line) : Type 0 where

@@ -2,12 +2,12 @@
 
 ghost use Rattle.std.specs.Prelude.{◌≡◌, ◌+◌, ◌*◌, ◌≤◌, ◌<◌, ◌++◌, length, take, drop, OnErr, OnOk};
 ghost use Rattle.fetch_pack.specs.Texts.{Keeps};
-ghost use Rattle.fetch_wire.specs.Written.{lines_text};
+ghost use Rattle.fetch_lines.specs.Written.{lines_text};
 ghost use Rattle.fetch_check.specs.Bundles.{piece_lines};
 
 use crate::writing::{PIECE, append_line};
+use fetch_lines::LineRef;
 use fetch_store::NoMemory;
-use fetch_wire::LineRef;
 use std::alloc::Global;
 
 /// How many bytes a line of a whole piece has.

@@ -6,9 +6,9 @@ ghost use Rattle.std.specs.List.{concat};
 ghost use Rattle.std.specs.Option.{option_copied};
 ghost use Rattle.fetch_base.specs.Id.{id_cmp};
 ghost use Rattle.fetch_refs.specs.Names.{name_cmp};
-ghost use Rattle.fetch_wire.specs.LineViews.{line_of};
-ghost use Rattle.fetch_wire.specs.Requests.{sent};
-ghost use Rattle.fetch_wire.specs.declared.lines.line.Line.TheVariants.{Payload};
+ghost use Rattle.fetch_lines.specs.LineViews.{line_of};
+ghost use Rattle.fetch_lines.specs.Requests.{sent};
+ghost use Rattle.fetch_lines.specs.declared.lines.line.Line.TheVariants.{Payload};
 ghost use Rattle.fetch_check.specs.Bundles.{border_line, head_texts, ref_line};
 ghost use Rattle.fetch_check.specs.Payloads.{IsOfHash, IsReference};
 ghost use Rattle.fetch_check.specs.Reading.{AreBorderIds, ArePieces, AreReferences, IsPiece, IsRefused};
@@ -19,10 +19,10 @@ use crate::error::BundleError;
 use crate::payloads::{border_id, reference};
 use crate::scanning::{end_of, line_at};
 use crate::writing::PIECE;
+use fetch_lines::LineRef;
 use fetch_refs::Target;
 use fetch_specs::FullName;
 use fetch_store::{Kind, NoMemory, ObjectId};
-use fetch_wire::LineRef;
 use std::alloc::Global;
 
 /// The hash that the first two lines tell, and where they end.

@@ -3,10 +3,10 @@
 ghost use Rattle.std.specs.Prelude.{◌≡◌, ◌++◌, ◌∷◌, ◌≤◌, [], None, List as Items, ℕ, length, drop, IfSome};
 ghost use Rattle.std.specs.Char.{is_ascii_uppercase};
 ghost use Rattle.std.specs.List.{list_any};
-ghost use Rattle.fetch_wire.specs.LineViews.{line_of};
+ghost use Rattle.fetch_lines.specs.LineViews.{line_of};
 ghost use Rattle.fetch_check.specs.Scanning.{Begins, BeginsNone, Stand, Stands};
 
-use fetch_wire::{LineRef, line_in};
+use fetch_lines::{LineRef, line_in};
 
 /// The longest line: its digits, and a payload of 65,516 bytes.
 const MAX_LINE: usize = 65_520;

@@ -13,9 +13,9 @@ ghost use Rattle.fetch_pack.specs.Records.{pack_text, payloads_of};
 ghost use Rattle.fetch_pack.specs.Texts.{Keeps};
 ghost use Rattle.fetch_pack.specs.declared.version.PackVersion.TheVariants.{V2};
 ghost use Rattle.fetch_refs.specs.Targets.{seen};
-ghost use Rattle.fetch_wire.specs.LineViews.{line_of};
-ghost use Rattle.fetch_wire.specs.Requests.{sent};
-ghost use Rattle.fetch_wire.specs.Written.{line_text, lines_text, too_long_in};
+ghost use Rattle.fetch_lines.specs.LineViews.{line_of};
+ghost use Rattle.fetch_lines.specs.Requests.{sent};
+ghost use Rattle.fetch_lines.specs.Written.{line_text, lines_text, too_long_in};
 ghost use Rattle.fetch_reach.specs.Named.{AreOwnIds, IsOwnId};
 ghost use Rattle.fetch_reach.specs.Sets.{is_among};
 ghost use Rattle.fetch_reach.specs.Stored.{CanHold, objects_at};
@@ -29,6 +29,7 @@ use crate::breaking::first_broken;
 use crate::cutting::{count_of, cut_from};
 use crate::error::BundleError;
 use crate::leaving::reached_from_refs;
+use fetch_lines::{LineRef, WireError, write_line};
 use fetch_pack::PackVersion;
 use fetch_reach::write_stored;
 use fetch_refs::{Refs, TargetRef};
@@ -36,7 +37,6 @@ use fetch_specs::{FullName, NameError};
 use fetch_store::{
     Border, Kind, Missing, NoMemory, ObjectId, Store, append_hex, first_missing, same_id,
 };
-use fetch_wire::{LineRef, WireError, write_line};
 use std::alloc::Global;
 
 /// How many bytes of the pack a line has.

@@ -8,7 +8,7 @@ use Rattle.fetch_remote.specs.Repositories.{State}
 use Rattle.fetch_remote.specs.declared.fetching.fetch_error.FetchError.{FetchError}
 use Rattle.fetch_remote.specs.declared.fetching.fetch_error.FetchError.TheVariants as errors
 use Rattle.fetch_remote.specs.declared.fetching.outcome.Outcome.{Outcome}
-use Rattle.fetch_wire.specs.declared.lines.line.Line.{Line}
+use Rattle.fetch_lines.specs.declared.lines.line.Line.{Line}
 use Rattle.fetch_bench_scene.specs.Bench.{generated_scene}
 use Rattle.fetch_cli.specs.Bench.{summary_with, summary_of, IsSummary}
 use Rattle.fetch_cli.specs.Io.{IsLongerThan}

@@ -1,7 +1,7 @@
 -- Going over the lines that a peer heard.
 use Rattle.std.proofs.Common.{◌≡◌, ℕ, zero, suc, ◌-◌, ◌<◌, ◌≤◌, List, [], ◌∷◌, ◌++◌, length, take, drop, Some, None, refl, sym, ap, ◌∙◌, append_assoc, arith, length-drop}
 use Rattle.std.proofs.lemmas.List.{append-nil, take_all}
-use Rattle.fetch_wire.specs.declared.lines.line.Line.{Line}
+use Rattle.fetch_lines.specs.declared.lines.line.Line.{Line}
 use Rattle.fetch_cli.specs.Heard.{heard_within, lines_heard}
 use Rattle.fetch_cli.specs.Report.{sent_lines}
 use Rattle.fetch_cli.specs.ReportLines.{sent_line}

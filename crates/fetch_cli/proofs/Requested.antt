@@ -7,19 +7,19 @@ use Rattle.std.specs.Option.{option_or}
 use Rattle.fetch_store.specs.Graph.{Graph, graph_of}
 use Rattle.fetch_base.specs.declared.id.ObjectId.{ObjectId}
 use Rattle.fetch_negotiate.specs.declared.algorithm.Algorithm.{Algorithm}
-use Rattle.fetch_wire.specs.Awaited.{told_at}
-use Rattle.fetch_wire.specs.declared.replies.reply.ReplyKind.{ReplyKind}
-use Rattle.fetch_wire.specs.declared.replies.reply.ReplyKind.TheVariants as awaits
-use Rattle.fetch_wire.specs.declared.replies.reply.ReplyError.{ReplyError}
-use Rattle.fetch_wire.specs.declared.replies.reply.ParsedReply.{ParsedReply}
-use Rattle.fetch_wire.specs.declared.replies.reply.ParsedReply.TheVariants as told
-use Rattle.fetch_wire.specs.declared.greetings.handshake.Handshake.{Handshake}
-use Rattle.fetch_wire.specs.declared.lines.line.Line.{Line}
-use Rattle.fetch_wire.specs.declared.lines.line.Line.TheVariants.{Payload, Flush, Delim, End}
-use Rattle.fetch_wire.specs.RequestLines.{id_lines}
-use Rattle.fetch_wire.specs.RequestWords.{have_word, done_word}
-use Rattle.fetch_wire.specs.Requests.{first_line, listing_lines, listing_word, head_texts, detail_texts, prefix_text, sent, when, text_line}
-use Rattle.fetch_wire.specs.Written.{too_long_in, first_too_long}
+use Rattle.fetch_replies.specs.Awaited.{told_at}
+use Rattle.fetch_replies.specs.declared.replies.reply.ReplyKind.{ReplyKind}
+use Rattle.fetch_replies.specs.declared.replies.reply.ReplyKind.TheVariants as awaits
+use Rattle.fetch_replies.specs.declared.replies.reply.ReplyError.{ReplyError}
+use Rattle.fetch_replies.specs.declared.replies.reply.ParsedReply.{ParsedReply}
+use Rattle.fetch_replies.specs.declared.replies.reply.ParsedReply.TheVariants as told
+use Rattle.fetch_lines.specs.declared.greetings.handshake.Handshake.{Handshake}
+use Rattle.fetch_lines.specs.declared.lines.line.Line.{Line}
+use Rattle.fetch_lines.specs.declared.lines.line.Line.TheVariants.{Payload, Flush, Delim, End}
+use Rattle.fetch_lines.specs.RequestLines.{id_lines}
+use Rattle.fetch_lines.specs.RequestWords.{have_word, done_word}
+use Rattle.fetch_lines.specs.Requests.{first_line, listing_lines, listing_word, head_texts, detail_texts, prefix_text, sent, when, text_line}
+use Rattle.fetch_lines.specs.Written.{too_long_in, first_too_long}
 use Rattle.fetch_negotiate.specs.Requests.{Asked, fetch_request, head_of, asked_of, pack_word}
 use Rattle.fetch_conversation.specs.Conversation.{Conversation, ends, asks, asking, asks_unless, sent_in, after_reply, told_as, and_then}
 use Rattle.fetch_conversation.specs.ConverseStage.{converse_stage, wanting, fetching, algorithm_in}

@@ -8,11 +8,11 @@ use Rattle.std.specs.Option.{option_or}
 use Rattle.std.specs.Result.{result_ok}
 use Rattle.hex.specs.Hex.{IsBytes, encode_with}
 use Rattle.hex.proofs.HexLemmas.{decode_sized-encode_lower}
-use Rattle.fetch_wire.specs.Lines.{line_counted, announced, number_in, line_at}
-use Rattle.fetch_wire.specs.Written.{four_digits, count_of, payload_of, line_text, lines_text, too_long_in, first_too_long}
-use Rattle.fetch_wire.specs.declared.lines.line.Line.{Line}
-use Rattle.fetch_wire.specs.declared.lines.line.Line.TheVariants.{Payload, Flush, Delim, End}
-use Rattle.fetch_wire.specs.declared.lines.section.LineError.{LineError}
+use Rattle.fetch_lines.specs.Lines.{line_counted, announced, number_in, line_at}
+use Rattle.fetch_lines.specs.Written.{four_digits, count_of, payload_of, line_text, lines_text, too_long_in, first_too_long}
+use Rattle.fetch_lines.specs.declared.lines.line.Line.{Line}
+use Rattle.fetch_lines.specs.declared.lines.line.Line.TheVariants.{Payload, Flush, Delim, End}
+use Rattle.fetch_lines.specs.declared.lines.section.LineError.{LineError}
 use Rattle.fetch_cli.specs.Heard.{heard_within, lines_heard, is_sent, AreSent}
 use Rattle.fetch_scene.specs.SceneLines.{unbounded, line_found}
 

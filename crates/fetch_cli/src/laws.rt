@@ -1,8 +1,8 @@
 //! What holds of the definitions of a report.
 
 ghost use Rattle.std.specs.Prelude.{◌≡◌, ℕ, List};
-ghost use Rattle.fetch_wire.specs.Written.{lines_text};
-ghost use Rattle.fetch_wire.specs.declared.lines.line.Line.{Line};
+ghost use Rattle.fetch_lines.specs.Written.{lines_text};
+ghost use Rattle.fetch_lines.specs.declared.lines.line.Line.{Line};
 ghost use Rattle.fetch_cli.specs.Heard.{AreSent, lines_heard};
 ghost use Rattle.fetch_remote.specs.Fetching.{requests_in};
 ghost use Rattle.fetch_remote.specs.Valid.{IsValidInput};

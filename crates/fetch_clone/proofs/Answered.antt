@@ -6,8 +6,8 @@ use Rattle.fetch_base.specs.Faults.{Faults, Rose}
 use Rattle.fetch_files.specs.Trees.{Tree}
 use Rattle.fetch_lookup.specs.declared.direction.Direction.TheVariants.{Fetch}
 use Rattle.fetch_update.specs.declared.worktrees.Worktree.{Worktree}
-use Rattle.fetch_wire.specs.Talks.{Talk}
-use Rattle.fetch_wire.specs.declared.listings.mapping.RefMap.{RefMap}
+use Rattle.fetch_lines.specs.Talks.{Talk}
+use Rattle.fetch_lines.specs.declared.listings.mapping.RefMap.{RefMap}
 use Rattle.fetch_conversation.specs.declared.ref_map.Error.{Error as MapError}
 use Rattle.fetch_conversation.specs.declared.ref_map.Error.TheVariants as ref_map
 use Rattle.fetch_remote.specs.Connecting.{IsMissing, Makes, MakesAtFirst, TakesBack}

@@ -1,6 +1,6 @@
 -- What was listed by a peer is what is fetched from it.
 use Rattle.std.proofs.Common.{Bool, true, false, Option, sym, ap, subst}
-use Rattle.fetch_wire.specs.Talks.{Talk}
+use Rattle.fetch_lines.specs.Talks.{Talk}
 use Rattle.fetch_conversation.specs.declared.ref_map.Options.{Options}
 use Rattle.fetch_remote.specs.Stages.{inquiry_of}
 use Rattle.fetch_remote.specs.Steps.{HasListed}

@@ -3,7 +3,7 @@ use Rattle.std.proofs.Common.{◌≡◌, Bool, Option, Some, None, refl, sym, �
 use Rattle.std.specs.Prelude.{◌⊎◌}
 use Rattle.fetch_files.specs.Trees.{Tree}
 use Rattle.fetch_base.specs.declared.id.Kind.{Kind}
-use Rattle.fetch_wire.specs.Talks.{Talk}
+use Rattle.fetch_lines.specs.Talks.{Talk}
 use Rattle.fetch_remote.specs.Remotes.{RemoteValue}
 use Rattle.fetch_remote.specs.RepositoryValues.{RepositoryValue, Setup, resolved_of}
 use Rattle.fetch_remote.specs.declared.fetching.prepared.Prepared.{Prepared}

@@ -17,12 +17,12 @@ use Rattle.fetch_refs.specs.declared.edit.RefLog.TheVariants.{AndReference, Only
 use Rattle.fetch_refs.specs.declared.error.RefError.{RefError}
 use Rattle.fetch_refs.specs.declared.target.Target.{Target}
 use Rattle.fetch_refs.specs.declared.target.Target.TheVariants as targets
-use Rattle.fetch_wire.specs.Mappings.{spec_at}
-use Rattle.fetch_wire.specs.References.{name_in, source_id}
-use Rattle.fetch_wire.specs.declared.listings.mapping.Mapping.{Mapping}
-use Rattle.fetch_wire.specs.declared.listings.mapping.RefMap.{RefMap}
-use Rattle.fetch_wire.specs.declared.listings.reference.Ref.{Ref}
-use Rattle.fetch_wire.specs.declared.listings.reference.Ref.TheVariants as refs
+use Rattle.fetch_lines.specs.Mappings.{spec_at}
+use Rattle.fetch_lines.specs.References.{name_in, source_id}
+use Rattle.fetch_lines.specs.declared.listings.mapping.Mapping.{Mapping}
+use Rattle.fetch_lines.specs.declared.listings.mapping.RefMap.{RefMap}
+use Rattle.fetch_lines.specs.declared.listings.reference.Ref.{Ref}
+use Rattle.fetch_lines.specs.declared.listings.reference.Ref.TheVariants as refs
 use Rattle.fetch_clone.specs.NamedRefs.{is_called, ref_named_in}
 use Rattle.fetch_clone.specs.declared.head_target.HeadTarget.{HeadTarget}
 use Rattle.fetch_clone.specs.declared.head_target.HeadTarget.TheVariants.{Nothing, Id, Name}

@@ -1,6 +1,6 @@
 -- The interrupt is heeded while a clone talks to its peers.
 use Rattle.std.specs.Prelude.{ℕ, ◌+◌, ◌<◌, ◌≤◌, Option}
-use Rattle.fetch_wire.specs.Talks.{Talk}
+use Rattle.fetch_lines.specs.Talks.{Talk}
 use Rattle.fetch_conversation.specs.Receiving.{HasReceived}
 
 -- The interrupt was asked so often, and said no each time. No yes was passed over that it was to say, and all later ones it has

@@ -5,7 +5,7 @@ use Rattle.std.specs.List.{list_any}
 use Rattle.std.specs.Str.{bytes_eq}
 use Rattle.fetch_base.specs.Faults.{Faults, Counts}
 use Rattle.fetch_update.specs.Policy.{is_forced}
-use Rattle.fetch_wire.specs.Talks.{Talk}
+use Rattle.fetch_lines.specs.Talks.{Talk}
 use Rattle.fetch_specs.specs.Parses.{parsed}
 use Rattle.fetch_specs.specs.Specs.{Spec}
 use Rattle.fetch_specs.specs.declared.conflict.Conflict.{Conflict}

@@ -1,7 +1,7 @@
 -- Peers that a clone makes, lets a closure configure, and takes back.
 use Rattle.std.specs.Prelude.{◌≡◌, ◌⊎◌, ℕ, Bool, List, Option, None, Result, Ok, Err}
 use Rattle.fetch_base.specs.Faults.{Faults, Rose}
-use Rattle.fetch_wire.specs.Talks.{Talk}
+use Rattle.fetch_lines.specs.Talks.{Talk}
 use Rattle.fetch_lookup.specs.declared.direction.Direction.TheVariants.{Fetch}
 use Rattle.fetch_remote.specs.Connecting.{Makes, MakesAtFirst, TakesBack}
 use Rattle.fetch_remote.specs.declared.connect.Error.{Error as ConnectError}

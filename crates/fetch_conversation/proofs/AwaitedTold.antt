@@ -4,29 +4,30 @@ use Rattle.std.specs.Prelude.{⊤, if◌then◌else◌, ◌==◌}
 use Rattle.std.specs.Option.{option_and_then}
 use Rattle.fetch_base.specs.declared.id.Kind.{Kind}
 use Rattle.fetch_base.specs.declared.id.ObjectId.{ObjectId}
-use Rattle.fetch_wire.specs.declared.replies.reply.ReplyContext.{ReplyContext}
-use Rattle.fetch_wire.specs.declared.replies.reply.ReplyKind.TheVariants as awaits
-use Rattle.fetch_wire.specs.declared.replies.reply.ReplyError.{ReplyError}
-use Rattle.fetch_wire.specs.declared.replies.reply.ParsedReply.{ParsedReply}
-use Rattle.fetch_wire.specs.declared.replies.reply.ParsedReply.TheVariants as told
-use Rattle.fetch_wire.specs.declared.lines.line.Line.{Line}
-use Rattle.fetch_wire.specs.declared.lines.line.Line.TheVariants as lines
-use Rattle.fetch_wire.specs.declared.replies.parser.Part.{Part}
-use Rattle.fetch_wire.specs.declared.replies.parser.Part.TheVariants as parts
-use Rattle.fetch_wire.specs.declared.replies.parser.ReplyParser.{ReplyParser}
-use Rattle.fetch_wire.specs.declared.replies.parser.ReplyParser.TheVariants as reading
-use Rattle.fetch_wire.specs.declared.requests.records.FetchReply.{FetchReply}
-use Rattle.fetch_wire.specs.declared.listings.reference.Ref.{Ref}
-use Rattle.fetch_wire.specs.declared.lines.section.LineError.{LineError}
-use Rattle.fetch_wire.specs.Awaited.{step_of, told_at, at_listed}
-use Rattle.fetch_wire.specs.KnownIds.{each_once}
-use Rattle.fetch_wire.specs.FetchReplies.{at_packfile, at_rest, at_beginning, at_acknowledgment, behind_ready, at_change, at_band, by_band, acknowledged_in, shallow_in, unshallow_in, is_acknowledgments, is_nak, is_ready, reply_step, no_reply, with_bytes}
-use Rattle.fetch_wire.specs.Lines.{line_at, line_len}
-use Rattle.fetch_wire.specs.Listings.{if_new, ref_in}
-use Rattle.fetch_wire.specs.FetchReplies.{is_packfile, is_shallow_info}
-use Rattle.fetch_wire.specs.Stepping.{Step, goes, ends, breaks, says, or_breaks, after_step, after_line, read_within}
-use Rattle.fetch_wire.specs.Steps.{by_line, error_text}
-use Rattle.fetch_wire.specs.Texts.{without_lf, is_error}
+use Rattle.fetch_replies.specs.declared.replies.reply.ReplyContext.{ReplyContext}
+use Rattle.fetch_replies.specs.declared.replies.reply.ReplyKind.TheVariants as awaits
+use Rattle.fetch_replies.specs.declared.replies.reply.ReplyError.{ReplyError}
+use Rattle.fetch_replies.specs.declared.replies.reply.ParsedReply.{ParsedReply}
+use Rattle.fetch_replies.specs.declared.replies.reply.ParsedReply.TheVariants as told
+use Rattle.fetch_lines.specs.declared.lines.line.Line.{Line}
+use Rattle.fetch_lines.specs.declared.lines.line.Line.TheVariants as lines
+use Rattle.fetch_replies.specs.declared.replies.parser.Part.{Part}
+use Rattle.fetch_replies.specs.declared.replies.parser.Part.TheVariants as parts
+use Rattle.fetch_replies.specs.declared.replies.parser.ReplyParser.{ReplyParser}
+use Rattle.fetch_replies.specs.declared.replies.parser.ReplyParser.TheVariants as reading
+use Rattle.fetch_lines.specs.declared.requests.records.FetchReply.{FetchReply}
+use Rattle.fetch_lines.specs.declared.listings.reference.Ref.{Ref}
+use Rattle.fetch_lines.specs.declared.lines.section.LineError.{LineError}
+use Rattle.fetch_replies.specs.Awaited.{step_of, told_at, at_listed}
+use Rattle.fetch_lines.specs.KnownIds.{each_once}
+use Rattle.fetch_replies.specs.FetchReplies.{at_packfile, at_rest, at_beginning, at_acknowledgment, behind_ready, at_change, at_band, by_band, acknowledged_in, shallow_in, unshallow_in, is_acknowledgments, is_nak, is_ready, reply_step, with_bytes}
+use Rattle.fetch_lines.specs.FetchRecords.{no_reply}
+use Rattle.fetch_lines.specs.Lines.{line_at, line_len}
+use Rattle.fetch_replies.specs.Listings.{if_new, ref_in}
+use Rattle.fetch_replies.specs.FetchReplies.{is_packfile, is_shallow_info}
+use Rattle.fetch_replies.specs.Stepping.{Step, goes, ends, breaks, says, or_breaks, after_step, after_line, read_within}
+use Rattle.fetch_replies.specs.Steps.{by_line, error_text}
+use Rattle.fetch_lines.specs.Texts.{without_lf, is_error}
 
 -- a reading of the one, with what it tells, or of the other
 pub data Awaited : Type 0 where

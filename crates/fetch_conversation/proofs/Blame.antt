@@ -2,7 +2,7 @@
 use Rattle.std.proofs.Common.{◌≡◌, ◌+◌, ℕ, suc, Bool, [], ◌∷◌, Option, refl, sym, ◌∙◌, subst, arith}
 use Rattle.std.proofs.lemmas.Bool.{cases_lt}
 use Rattle.fetch_base.specs.Faults.{Faults, Rose, Counts, Counts-none, Counts-then, Rose-earlier}
-use Rattle.fetch_wire.specs.Talks.{Talk, Makes, at_once}
+use Rattle.fetch_lines.specs.Talks.{Talk, Makes, at_once}
 use Rattle.fetch_conversation.specs.Receiving.{HasReceived}
 use Rattle.fetch_conversation.specs.Blame.{BlamesPeer, BlamesInterrupt}
 use Rattle.fetch_conversation.proofs.Heeded.{received_none, received_then, received_so, no_yes_by}

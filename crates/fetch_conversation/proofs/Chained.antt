@@ -3,14 +3,14 @@ use Rattle.std.proofs.Common.{◌≡◌, ℕ, Bool, true, false, List, [], ◌++
 use Rattle.std.proofs.lemmas.List.{append-nil}
 use Rattle.std.proofs.lemmas.List.Concat.{flat_map-append}
 use Rattle.std.specs.Prelude.{map}
-use Rattle.fetch_wire.specs.Talks.{Talk, Talks, Receive, behind, IsFront}
-use Rattle.fetch_wire.specs.Talks.{Talks-then, Makes-then}
-use Rattle.fetch_wire.specs.declared.replies.reply.ReplyError.{ReplyError}
-use Rattle.fetch_wire.specs.declared.replies.reply.ReplyError.TheVariants as faults
-use Rattle.fetch_wire.specs.declared.replies.reply.ParsedReply.{ParsedReply}
-use Rattle.fetch_wire.specs.declared.lines.line.Line.{Line}
-use Rattle.fetch_wire.specs.Awaited.{told_at}
-use Rattle.fetch_wire.specs.Written.{line_text, lines_text}
+use Rattle.fetch_lines.specs.Talks.{Talk, Talks, Receive, behind, IsFront}
+use Rattle.fetch_lines.specs.Talks.{Talks-then, Makes-then}
+use Rattle.fetch_replies.specs.declared.replies.reply.ReplyError.{ReplyError}
+use Rattle.fetch_replies.specs.declared.replies.reply.ReplyError.TheVariants as faults
+use Rattle.fetch_replies.specs.declared.replies.reply.ParsedReply.{ParsedReply}
+use Rattle.fetch_lines.specs.declared.lines.line.Line.{Line}
+use Rattle.fetch_replies.specs.Awaited.{told_at}
+use Rattle.fetch_lines.specs.Written.{line_text, lines_text}
 use Rattle.fetch_conversation.specs.Conversation.{Conversation, ends, asks, sent_in, answer_in, ends_in, awaits_more, IsDue, AllGave, IsAwaited, after_reply, after_answer, and_then, map_refusal, told_as, beside, Concludes, RefusesWith, IsRefusedBy, Breaks}
 use Rattle.fetch_conversation.proofs.Due.{all_both, all_as, all_behind, gave_then, all_gave_then}
 

@@ -4,23 +4,23 @@ use Rattle.std.specs.Prelude.{is_some, map, ◌⊎◌, ◌||◌, ◌==◌}
 use Rattle.std.specs.List.{AllByRecursion}
 use Rattle.std.proofs.lemmas.Bool.{eqb-true}
 use Rattle.std.proofs.lemmas.List.{append-nil, nil_from_length}
-use Rattle.fetch_wire.specs.declared.replies.reply.ReplyError.{ReplyError}
-use Rattle.fetch_wire.specs.declared.replies.reply.ReplyError.TheVariants as faults
-use Rattle.fetch_wire.specs.declared.replies.reply.ParsedReply.{ParsedReply}
-use Rattle.fetch_wire.specs.declared.replies.reply.ParsedReply.TheVariants as told
-use Rattle.fetch_wire.specs.declared.error.WireError.{WireError}
-use Rattle.fetch_wire.specs.declared.error.WireError.TheVariants as wire
-use Rattle.fetch_wire.specs.declared.greetings.handshake.Handshake.{Handshake}
-use Rattle.fetch_wire.specs.declared.lines.line.Line.{Line}
+use Rattle.fetch_replies.specs.declared.replies.reply.ReplyError.{ReplyError}
+use Rattle.fetch_replies.specs.declared.replies.reply.ReplyError.TheVariants as faults
+use Rattle.fetch_replies.specs.declared.replies.reply.ParsedReply.{ParsedReply}
+use Rattle.fetch_replies.specs.declared.replies.reply.ParsedReply.TheVariants as told
+use Rattle.fetch_lines.specs.declared.error.WireError.{WireError}
+use Rattle.fetch_lines.specs.declared.error.WireError.TheVariants as wire
+use Rattle.fetch_lines.specs.declared.greetings.handshake.Handshake.{Handshake}
+use Rattle.fetch_lines.specs.declared.lines.line.Line.{Line}
 use Rattle.fetch_wire.specs.declared.session.turn.Turn.TheVariants as turns
-use Rattle.fetch_wire.specs.Greetings.{offers}
-use Rattle.fetch_wire.specs.Intakes.{ReplyBuffer, told_with, taking}
-use Rattle.fetch_wire.specs.Intakes as intakes
-use Rattle.fetch_wire.specs.Requests.{listing_lines}
+use Rattle.fetch_lines.specs.Greetings.{offers}
+use Rattle.fetch_replies.specs.Intakes.{ReplyBuffer, told_with, taking}
+use Rattle.fetch_replies.specs.Intakes as intakes
+use Rattle.fetch_lines.specs.Requests.{listing_lines}
 use Rattle.fetch_base.specs.Answers.{RefusesUnless}
 use Rattle.fetch_wire.specs.SessionStates.{SessionState, IsAlike, fed, ended, after_end, error_of, refusal_of, if_told, is_all_sent, turn_of, turn_by, IsAwaiting, is_memory, after_told, rests, asks, listing_by, listing_feature}
-use Rattle.fetch_wire.specs.Talks.{Talk, Talks, Receive, Makes, behind, at_once, IsDrained, IsFront, Talks-then, Talks-none, Talks-stay, Makes-none, Makes-then}
-use Rattle.fetch_wire.specs.Written.{first_too_long}
+use Rattle.fetch_lines.specs.Talks.{Talk, Talks, Receive, Makes, behind, at_once, IsDrained, IsFront, Talks-then, Talks-none, Talks-stay, Makes-none, Makes-then}
+use Rattle.fetch_lines.specs.Written.{first_too_long}
 use Rattle.fetch_wire.proofs.Conversing.{same, fed_is}
 use Rattle.fetch_wire.proofs.SessionAlike.{stays_alike, alike_then}
 use Rattle.fetch_wire.proofs.SessionPieces.{pieces, stuck}

@@ -2,7 +2,7 @@
 use Rattle.std.proofs.Common.{ℕ, ◌<◌, List, [], ◌∷◌, ◌++◌, length, arith, length-append}
 use Rattle.std.specs.Prelude.{map}
 use Rattle.std.specs.List.{AllByRecursion}
-use Rattle.fetch_wire.specs.Talks.{Receive, behind}
+use Rattle.fetch_lines.specs.Talks.{Receive, behind}
 use Rattle.fetch_conversation.specs.Conversation.{AllButLastGave, AllGave}
 
 pub all_both : {A : Type 0} (P : A → Type 0) (xs ys : List A) → AllByRecursion P xs → AllByRecursion P ys → AllByRecursion P (xs ++ ys)

@@ -3,9 +3,9 @@ use Rattle.std.proofs.Common.{◌≡◌, ◌<◌, ◌≤◌, ◌+◌, ◌-◌, �
 use Rattle.std.specs.Prelude.{◌⊎◌, map, if◌then◌else◌}
 use Rattle.std.proofs.lemmas.Bool.{cases_lt}
 use Rattle.std.proofs.lemmas.List.{length-append, length-map}
-use Rattle.fetch_wire.specs.Talks.{Talk, Receive, Makes, behind, at_once}
-use Rattle.fetch_wire.specs.declared.error.WireError.{WireError}
-use Rattle.fetch_wire.specs.declared.error.WireError.TheVariants as wire
+use Rattle.fetch_lines.specs.Talks.{Talk, Receive, Makes, behind, at_once}
+use Rattle.fetch_lines.specs.declared.error.WireError.{WireError}
+use Rattle.fetch_lines.specs.declared.error.WireError.TheVariants as wire
 use Rattle.fetch_conversation.specs.Errors.{is_yes, is_interrupted, is_stopped, prepare_of_wire, prepare_of_stop, fetch_of_wire, fetch_of_stop}
 use Rattle.fetch_conversation.specs.Receiving.{HasReceived, last_question, IsHeeded}
 use Rattle.fetch_conversation.specs.declared.drive.DriveError.{DriveError}

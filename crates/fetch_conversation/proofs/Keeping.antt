@@ -2,30 +2,30 @@
 use Rattle.std.proofs.Common.{◌≡◌, ℕ, Bool, true, false, not, List, [], ◌++◌, Option, Some, None, Result, Ok, Err, refl, sym, ap, ◌∙◌, arith}
 use Rattle.std.specs.Prelude.{is_some}
 use Rattle.fetch_base.specs.declared.id.ObjectId.{ObjectId}
-use Rattle.fetch_wire.specs.declared.replies.reply.ReplyContext.{ReplyContext}
-use Rattle.fetch_wire.specs.declared.replies.reply.ReplyKind.TheVariants as awaits
-use Rattle.fetch_wire.specs.declared.replies.reply.ReplyError.{ReplyError}
-use Rattle.fetch_wire.specs.declared.replies.reply.ReplyError.TheVariants as faults
-use Rattle.fetch_wire.specs.declared.replies.reply.ParsedReply.{ParsedReply}
-use Rattle.fetch_wire.specs.declared.replies.reply.ParsedReply.TheVariants as told
-use Rattle.fetch_wire.specs.declared.greetings.handshake.Handshake.{Handshake}
-use Rattle.fetch_wire.specs.declared.lines.line.Line.{Line}
-use Rattle.fetch_wire.specs.declared.replies.parser.Part.TheVariants as parts
-use Rattle.fetch_wire.specs.declared.replies.parser.ReplyParser.TheVariants as reading
+use Rattle.fetch_replies.specs.declared.replies.reply.ReplyContext.{ReplyContext}
+use Rattle.fetch_replies.specs.declared.replies.reply.ReplyKind.TheVariants as awaits
+use Rattle.fetch_replies.specs.declared.replies.reply.ReplyError.{ReplyError}
+use Rattle.fetch_replies.specs.declared.replies.reply.ReplyError.TheVariants as faults
+use Rattle.fetch_replies.specs.declared.replies.reply.ParsedReply.{ParsedReply}
+use Rattle.fetch_replies.specs.declared.replies.reply.ParsedReply.TheVariants as told
+use Rattle.fetch_lines.specs.declared.greetings.handshake.Handshake.{Handshake}
+use Rattle.fetch_lines.specs.declared.lines.line.Line.{Line}
+use Rattle.fetch_replies.specs.declared.replies.parser.Part.TheVariants as parts
+use Rattle.fetch_replies.specs.declared.replies.parser.ReplyParser.TheVariants as reading
 use Rattle.fetch_wire.specs.declared.session.turn.Turn.TheVariants as turns
-use Rattle.fetch_wire.specs.Awaited.{told_at, told_from}
-use Rattle.fetch_wire.specs.FetchReplies.{no_reply}
-use Rattle.fetch_wire.specs.Greetings.{offers}
-use Rattle.fetch_wire.specs.Intakes.{ReplyBuffer, told_with, resting}
-use Rattle.fetch_wire.specs.Requests.{listing_lines}
+use Rattle.fetch_replies.specs.Awaited.{told_at, told_from}
+use Rattle.fetch_lines.specs.FetchRecords.{no_reply}
+use Rattle.fetch_lines.specs.Greetings.{offers}
+use Rattle.fetch_replies.specs.Intakes.{ReplyBuffer, told_with, resting}
+use Rattle.fetch_lines.specs.Requests.{listing_lines}
 use Rattle.fetch_wire.specs.SessionStates.{SessionState, IsAlike, fed, opened, requested, turn_of, after_told, read_one, rests, asks, listing_by, listing_feature}
 use Rattle.fetch_wire.specs.SessionStates as session
-use Rattle.fetch_wire.specs.Talks.{Talk}
-use Rattle.fetch_wire.specs.Written.{first_too_long}
+use Rattle.fetch_lines.specs.Talks.{Talk}
+use Rattle.fetch_lines.specs.Written.{first_too_long}
 use Rattle.fetch_wire.proofs.Lessening.{greeted_told}
 use Rattle.fetch_wire.proofs.SessionAlike.{stays_alike}
 use Rattle.fetch_wire.proofs.StepKeeps.{OfTold}
-use Rattle.fetch_wire.proofs.Staying.{IsBefore}
+use Rattle.fetch_replies.proofs.Staying.{IsBefore}
 use Rattle.fetch_conversation.specs.Conversing.{IsAsked}
 use Rattle.fetch_conversation.specs.Drives.{Finishes, with_heard}
 use Rattle.fetch_conversation.specs.Exchange.{FetchArgumentsValue}

@@ -6,16 +6,16 @@ use Rattle.fetch_specs.specs.Matches.{mappings_of}
 use Rattle.fetch_specs.specs.declared.conflict.Conflict.{Conflict}
 use Rattle.fetch_wire.specs.Parameters.{first_bad, texts_told}
 use Rattle.fetch_wire.specs.SessionStates.{SessionState, IsAlike, fed, opened}
-use Rattle.fetch_wire.specs.Stepping.{read_within}
-use Rattle.fetch_wire.specs.Lines.{line_at}
-use Rattle.fetch_wire.specs.Talks.{Talk}
-use Rattle.fetch_wire.specs.Written.{first_too_long}
-use Rattle.fetch_wire.specs.declared.error.WireError.{WireError}
-use Rattle.fetch_wire.specs.declared.error.WireError.TheVariants as wire
-use Rattle.fetch_wire.specs.declared.greetings.handshake.Handshake.{Handshake}
-use Rattle.fetch_wire.specs.declared.lines.line.Line.{Line}
-use Rattle.fetch_wire.specs.declared.listings.reference.Ref.{Ref}
-use Rattle.fetch_wire.specs.References.{name_in}
+use Rattle.fetch_replies.specs.Stepping.{read_within}
+use Rattle.fetch_lines.specs.Lines.{line_at}
+use Rattle.fetch_lines.specs.Talks.{Talk}
+use Rattle.fetch_lines.specs.Written.{first_too_long}
+use Rattle.fetch_lines.specs.declared.error.WireError.{WireError}
+use Rattle.fetch_lines.specs.declared.error.WireError.TheVariants as wire
+use Rattle.fetch_lines.specs.declared.greetings.handshake.Handshake.{Handshake}
+use Rattle.fetch_lines.specs.declared.lines.line.Line.{Line}
+use Rattle.fetch_lines.specs.declared.listings.reference.Ref.{Ref}
+use Rattle.fetch_lines.specs.References.{name_in}
 use Rattle.fetch_wire.proofs.Conversing.{same}
 use Rattle.fetch_conversation.specs.Conversation.{Conversation, ends, sent_in, answer_in, Concludes, RefusesWith, Converses}
 use Rattle.fetch_conversation.specs.Drives.{IsDrivable, Finishes, Stops}

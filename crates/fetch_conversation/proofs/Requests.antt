@@ -6,12 +6,12 @@ use Rattle.std.proofs.lemmas.Bool.{lt-ltb}
 use Rattle.std.proofs.lemmas.List.{take_all, drop_all, take-append-le, drop-append-le, length-append}
 use Rattle.fetch_base.specs.declared.id.Kind.{Kind}
 use Rattle.fetch_base.specs.declared.id.ObjectId.{ObjectId}
-use Rattle.fetch_wire.specs.declared.greetings.handshake.Handshake.{Handshake}
-use Rattle.fetch_wire.specs.declared.lines.line.Line.TheVariants.{Delim, Flush}
-use Rattle.fetch_wire.specs.Greetings.{offers, has_word, value_of}
-use Rattle.fetch_wire.specs.Requests.{when, sent, kind_text, agent_text}
-use Rattle.fetch_wire.specs.RequestWords.{command_word, agent_is, agent_word, format_word, format_is, plain_pack, plain_pack_2, have_word, done_word}
-use Rattle.fetch_wire.specs.RequestLines.{id_lines, is_plain_pack, pack_place, request_lines}
+use Rattle.fetch_lines.specs.declared.greetings.handshake.Handshake.{Handshake}
+use Rattle.fetch_lines.specs.declared.lines.line.Line.TheVariants.{Delim, Flush}
+use Rattle.fetch_lines.specs.Greetings.{offers, has_word, value_of}
+use Rattle.fetch_lines.specs.Requests.{when, sent, kind_text, agent_text}
+use Rattle.fetch_lines.specs.RequestWords.{command_word, agent_is, agent_word, format_word, format_is, plain_pack, plain_pack_2, have_word, done_word}
+use Rattle.fetch_lines.specs.RequestLines.{id_lines, is_plain_pack, pack_place, request_lines}
 use Rattle.fetch_negotiate.specs.Requests.{Asked, details_of, pack_word, text_lines, fetch_request}
 
 command_isnt : is_plain_pack command_word ≡ false

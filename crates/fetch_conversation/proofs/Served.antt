@@ -3,15 +3,15 @@ use Rattle.std.proofs.Common.{◌≡◌, ℕ, Bool, false, List, [], ◌∷◌, 
 use Rattle.std.specs.Prelude.{◌≢◌, IsTrue}
 use Rattle.std.proofs.lemmas.List.{append-nil, append_cancel_left}
 use Rattle.std.proofs.lemmas.List.Concat.{flat_map-append}
-use Rattle.fetch_wire.specs.Awaited.{step_of, start_of, told_at}
-use Rattle.fetch_wire.specs.StepLaws.{read_by-more, with_more, IsSettled}
-use Rattle.fetch_wire.specs.Talks.{Talk, Talks, Passes, IsFront}
-use Rattle.fetch_wire.specs.declared.replies.reply.ReplyKind.{ReplyKind}
-use Rattle.fetch_wire.specs.declared.replies.reply.ReplyError.{ReplyError}
-use Rattle.fetch_wire.specs.declared.replies.reply.ReplyError.TheVariants.{Short}
-use Rattle.fetch_wire.specs.declared.replies.reply.ParsedReply.{ParsedReply}
-use Rattle.fetch_wire.specs.declared.lines.line.Line.{Line}
-use Rattle.fetch_wire.specs.Written.{line_text, lines_text}
+use Rattle.fetch_replies.specs.Awaited.{step_of, start_of, told_at}
+use Rattle.fetch_replies.specs.StepLaws.{read_by-more, with_more, IsSettled}
+use Rattle.fetch_lines.specs.Talks.{Talk, Talks, Passes, IsFront}
+use Rattle.fetch_replies.specs.declared.replies.reply.ReplyKind.{ReplyKind}
+use Rattle.fetch_replies.specs.declared.replies.reply.ReplyError.{ReplyError}
+use Rattle.fetch_replies.specs.declared.replies.reply.ReplyError.TheVariants.{Short}
+use Rattle.fetch_replies.specs.declared.replies.reply.ParsedReply.{ParsedReply}
+use Rattle.fetch_lines.specs.declared.lines.line.Line.{Line}
+use Rattle.fetch_lines.specs.Written.{line_text, lines_text}
 use Rattle.fetch_conversation.specs.Conversation.{Conversation, ends, asks, sent_in, answer_in, after_reply, beside, RefusesWith, IsRefusedBy, Concludes, Breaks}
 use Rattle.fetch_conversation.specs.Served.{answer_with, AsksOnly, requests_text, AreRequests, Serves, IsReadWhole, IsAnswered, IsOver, without_rest, IsFresh, Follows}
 

@@ -4,9 +4,9 @@ use Rattle.std.specs.Prelude.{is_some}
 use Rattle.fetch_base.specs.Faults.{Faults, Counts, Counts-none, Counts-then}
 use Rattle.fetch_base.specs.Answers.{RefusesUnless}
 use Rattle.fetch_wire.specs.SessionStates.{SessionState, IsAwaiting, fed, ended, is_all_sent, refusal_of, turn_by, turn_of, is_memory}
-use Rattle.fetch_wire.specs.Talks.{Talk, Talks, Makes, at_once, IsFront}
-use Rattle.fetch_wire.specs.declared.error.WireError.{WireError}
-use Rattle.fetch_wire.specs.declared.error.WireError.TheVariants as wire
+use Rattle.fetch_lines.specs.Talks.{Talk, Talks, Makes, at_once, IsFront}
+use Rattle.fetch_lines.specs.declared.error.WireError.{WireError}
+use Rattle.fetch_lines.specs.declared.error.WireError.TheVariants as wire
 use Rattle.fetch_wire.specs.declared.session.turn.Turn.TheVariants as turns
 use Rattle.fetch_wire.proofs.Lessening.{most_left, same_left, fed_less}
 use Rattle.fetch_conversation.specs.Drives.{IsDrivable, GoesOn, IsDriven, IsUnsent, RunsOut, Takes, made_by}

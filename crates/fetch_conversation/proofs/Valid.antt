@@ -2,8 +2,8 @@
 use Rattle.std.proofs.Common.{◌≡◌, ℕ, Bool, true, false, List, [], ◌++◌, Option, Some, Result, Ok, Err, refl, sym, ap, ◌∙◌, subst, inl, inr}
 use Rattle.std.specs.Prelude.{◌⊎◌}
 use Rattle.std.proofs.lemmas.List.{append-nil, append_cancel_left}
-use Rattle.fetch_wire.specs.Talks.{Talk, Talks}
-use Rattle.fetch_wire.specs.Written.{lines_text}
+use Rattle.fetch_lines.specs.Talks.{Talk, Talks}
+use Rattle.fetch_lines.specs.Written.{lines_text}
 use Rattle.fetch_conversation.specs.Conversation.{Conversation, sent_in, answer_in, IsUnheard, IsRefusedBy, Breaks, HasValidReplies}
 
 not_ok : {X E : Type 0} (r : Result X E) (e : E) (x : X) → r ≡ Err e → r ≡ Ok x → ⊥

@@ -7,25 +7,25 @@ use Rattle.fetch_specs.specs.Matches.{mappings_of}
 use Rattle.fetch_specs.specs.declared.conflict.Conflict.{Conflict}
 use Rattle.fetch_store.specs.Graph.{Graph}
 use Rattle.fetch_base.specs.declared.id.ObjectId.{ObjectId}
-use Rattle.fetch_wire.specs.Awaited.{told_at}
-use Rattle.fetch_wire.specs.Greetings.{handshake_of}
-use Rattle.fetch_wire.specs.References.{name_in}
-use Rattle.fetch_wire.specs.Requests.{listing_lines}
-use Rattle.fetch_wire.specs.ServerLines.{greeting_lines, listing_lines_of}
-use Rattle.fetch_wire.specs.Written.{lines_text, first_too_long}
-use Rattle.fetch_wire.specs.declared.replies.reply.ReplyKind.TheVariants as awaits
-use Rattle.fetch_wire.specs.declared.replies.reply.ReplyError.{ReplyError}
-use Rattle.fetch_wire.specs.declared.replies.reply.ParsedReply.{ParsedReply}
-use Rattle.fetch_wire.specs.declared.replies.reply.ParsedReply.TheVariants as told
-use Rattle.fetch_wire.specs.declared.greetings.handshake.Capability.{Capability}
-use Rattle.fetch_wire.specs.declared.greetings.handshake.Handshake.{Handshake}
-use Rattle.fetch_wire.specs.declared.lines.line.Line.{Line}
-use Rattle.fetch_wire.specs.declared.requests.records.FetchReply.{FetchReply}
-use Rattle.fetch_wire.specs.declared.listings.reference.Ref.{Ref}
-use Rattle.fetch_wire.proofs.GreetingLines.{greeting_tells}
-use Rattle.fetch_wire.proofs.ListingLines.{listing_tells}
-use Rattle.fetch_wire.proofs.Moving.{text_tells}
-use Rattle.fetch_wire.proofs.ReplyLines.{round_tells, last_tells, ready_tells}
+use Rattle.fetch_replies.specs.Awaited.{told_at}
+use Rattle.fetch_lines.specs.Greetings.{handshake_of}
+use Rattle.fetch_lines.specs.References.{name_in}
+use Rattle.fetch_lines.specs.Requests.{listing_lines}
+use Rattle.fetch_lines.specs.ServerLines.{greeting_lines, listing_lines_of}
+use Rattle.fetch_lines.specs.Written.{lines_text, first_too_long}
+use Rattle.fetch_replies.specs.declared.replies.reply.ReplyKind.TheVariants as awaits
+use Rattle.fetch_replies.specs.declared.replies.reply.ReplyError.{ReplyError}
+use Rattle.fetch_replies.specs.declared.replies.reply.ParsedReply.{ParsedReply}
+use Rattle.fetch_replies.specs.declared.replies.reply.ParsedReply.TheVariants as told
+use Rattle.fetch_lines.specs.declared.greetings.handshake.Capability.{Capability}
+use Rattle.fetch_lines.specs.declared.greetings.handshake.Handshake.{Handshake}
+use Rattle.fetch_lines.specs.declared.lines.line.Line.{Line}
+use Rattle.fetch_lines.specs.declared.requests.records.FetchReply.{FetchReply}
+use Rattle.fetch_lines.specs.declared.listings.reference.Ref.{Ref}
+use Rattle.fetch_replies.proofs.GreetingLines.{greeting_tells}
+use Rattle.fetch_replies.proofs.ListingLines.{listing_tells}
+use Rattle.fetch_replies.proofs.Moving.{text_tells}
+use Rattle.fetch_replies.proofs.ReplyLines.{round_tells, last_tells, ready_tells}
 use Rattle.fetch_negotiate.specs.declared.algorithm.Algorithm.{Algorithm}
 use Rattle.fetch_conversation.specs.Conversation.{Conversation, ends, asks, after_reply, beside, answer_in}
 use Rattle.fetch_conversation.specs.ConverseStage.{algorithm_in, rejected, result_unless, unpacked, read_of, received, with_pack, fetching, wanting, converse_stage}

@@ -1,7 +1,7 @@
 -- Who is blamed for a refusal: one who is lent, and only where its own count rose.
 use Rattle.std.specs.Prelude.{◌≡◌, ℕ, ◌+◌, ◌<◌, Bool, true, false, Option, Result, Ok, Err}
 use Rattle.fetch_base.specs.Faults.{Faults, Rose, Counts}
-use Rattle.fetch_wire.specs.Talks.{Talk}
+use Rattle.fetch_lines.specs.Talks.{Talk}
 use Rattle.fetch_conversation.specs.Receiving.{HasReceived}
 
 -- whether the answer is a refusal of this kind

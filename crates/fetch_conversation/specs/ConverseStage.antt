@@ -15,15 +15,15 @@ use Rattle.fetch_base.specs.declared.id.ObjectId.{ObjectId}
 use Rattle.fetch_specs.specs.Specs.{Spec}
 use Rattle.fetch_specs.specs.declared.operation.Mode.{Mode}
 use Rattle.fetch_specs.specs.declared.operation.Mode.TheVariants as modes
-use Rattle.fetch_wire.specs.Greetings.{offers, has_word, value_of}
-use Rattle.fetch_wire.specs.RequestWords.{plain_pack, plain_pack_2}
-use Rattle.fetch_wire.specs.declared.error.WireError.TheVariants as wire
-use Rattle.fetch_wire.specs.declared.greetings.handshake.Capability.{Capability}
-use Rattle.fetch_wire.specs.declared.greetings.handshake.Handshake.{Handshake}
-use Rattle.fetch_wire.specs.declared.greetings.handshake.Version.{Version}
-use Rattle.fetch_wire.specs.declared.greetings.handshake.Version.TheVariants as versions
-use Rattle.fetch_wire.specs.declared.listings.mapping.RefMap.{RefMap}
-use Rattle.fetch_wire.specs.declared.requests.records.FetchReply.{FetchReply}
+use Rattle.fetch_lines.specs.Greetings.{offers, has_word, value_of}
+use Rattle.fetch_lines.specs.RequestWords.{plain_pack, plain_pack_2}
+use Rattle.fetch_lines.specs.declared.error.WireError.TheVariants as wire
+use Rattle.fetch_lines.specs.declared.greetings.handshake.Capability.{Capability}
+use Rattle.fetch_lines.specs.declared.greetings.handshake.Handshake.{Handshake}
+use Rattle.fetch_lines.specs.declared.greetings.handshake.Version.{Version}
+use Rattle.fetch_lines.specs.declared.greetings.handshake.Version.TheVariants as versions
+use Rattle.fetch_lines.specs.declared.listings.mapping.RefMap.{RefMap}
+use Rattle.fetch_lines.specs.declared.requests.records.FetchReply.{FetchReply}
 use Rattle.fetch_negotiate.specs.declared.algorithm.Algorithm.{Algorithm}
 use Rattle.fetch_negotiate.specs.declared.algorithm.Algorithm.TheVariants as algorithms
 use Rattle.fetch_negotiate.specs.declared.algorithm.Shallow.{Shallow}

@@ -2,16 +2,16 @@
 use Rattle.std.specs.Prelude.{◌≡◌, ◌≢◌, ℕ, suc, Bool, false, List, Option, Some, None, Result, Ok, Err, ⊤, not}
 use Rattle.fetch_base.specs.declared.id.ObjectId.{ObjectId}
 use Rattle.fetch_store.specs.Graph.{Graph}
-use Rattle.fetch_wire.specs.declared.requests.records.FetchReply.{FetchReply}
+use Rattle.fetch_lines.specs.declared.requests.records.FetchReply.{FetchReply}
 use Rattle.fetch_negotiate.specs.Any.{so_far_of}
 use Rattle.fetch_negotiate.specs.Requests.{fetch_request}
 use Rattle.fetch_negotiate.specs.declared.algorithm.Algorithm.{Algorithm}
-use Rattle.fetch_wire.specs.RequestLines.{request_lines}
+use Rattle.fetch_lines.specs.RequestLines.{request_lines}
 use Rattle.fetch_wire.specs.SessionStates.{SessionState, IsAlike, requested}
 use Rattle.fetch_wire.specs.SessionStates as session
-use Rattle.fetch_wire.specs.Talks.{Talk}
-use Rattle.fetch_wire.specs.Written.{first_too_long}
-use Rattle.fetch_wire.specs.declared.requests.records.Request.{Request}
+use Rattle.fetch_lines.specs.Talks.{Talk}
+use Rattle.fetch_lines.specs.Written.{first_too_long}
+use Rattle.fetch_lines.specs.declared.requests.records.Request.{Request}
 use Rattle.fetch_conversation.specs.Conversation.{ends, Concludes, Breaks}
 use Rattle.fetch_conversation.specs.ConverseStage.{unmapped, unlike, unfit, lacked, is_border_needed, converse_stage}
 use Rattle.fetch_conversation.specs.Errors.{is_free_receiving, is_client, is_stopped}

@@ -3,9 +3,9 @@ use Rattle.std.specs.Prelude.{◌≡◌, ◌≢◌, ◌⊎◌, ℕ, Bool, false,
 use Rattle.std.specs.List.{AllByRecursion}
 use Rattle.fetch_base.specs.Faults.{Faults}
 use Rattle.fetch_wire.specs.SessionStates.{SessionState, IsAlike, IsAwaiting, fed, ended, turn_of}
-use Rattle.fetch_wire.specs.Talks.{Talk, Talks, Receive, Makes, at_once, IsDrained, IsFront}
-use Rattle.fetch_wire.specs.declared.error.WireError.{WireError}
-use Rattle.fetch_wire.specs.declared.error.WireError.TheVariants as wire
+use Rattle.fetch_lines.specs.Talks.{Talk, Talks, Receive, Makes, at_once, IsDrained, IsFront}
+use Rattle.fetch_lines.specs.declared.error.WireError.{WireError}
+use Rattle.fetch_lines.specs.declared.error.WireError.TheVariants as wire
 use Rattle.fetch_wire.specs.declared.session.turn.Turn.TheVariants as turns
 use Rattle.fetch_conversation.specs.Conversation.{AllButLastGave, AllGave}
 use Rattle.fetch_conversation.specs.Errors.{is_failed, is_yes}

@@ -4,8 +4,8 @@ use Rattle.fetch_pack.specs.declared.error.PackError.{PackError}
 use Rattle.fetch_pack.specs.declared.error.PackError.TheVariants as pack
 use Rattle.fetch_update.specs.declared.update.Error.{Error as UpdateError}
 use Rattle.fetch_update.specs.declared.update.Error.TheVariants as update
-use Rattle.fetch_wire.specs.declared.error.WireError.{WireError}
-use Rattle.fetch_wire.specs.declared.error.WireError.TheVariants as wire
+use Rattle.fetch_lines.specs.declared.error.WireError.{WireError}
+use Rattle.fetch_lines.specs.declared.error.WireError.TheVariants as wire
 use Rattle.fetch_conversation.specs.declared.drive.DriveError.{DriveError}
 use Rattle.fetch_conversation.specs.declared.drive.DriveError.TheVariants as stops
 use Rattle.fetch_conversation.specs.declared.fetch.Error.{Error as ReceiveError}

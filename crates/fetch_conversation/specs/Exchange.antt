@@ -3,13 +3,13 @@ use Rattle.std.specs.Prelude.{ℕ, Bool, not, List, ◌++◌, Ok, Err}
 use Rattle.fetch_base.specs.declared.id.ObjectId.{ObjectId}
 use Rattle.fetch_specs.specs.declared.tags.Tags.{Tags}
 use Rattle.fetch_wire.specs.SessionStates.{error_of}
-use Rattle.fetch_wire.specs.declared.replies.reply.ReplyContext.{ReplyContext}
-use Rattle.fetch_wire.specs.declared.replies.reply.ReplyKind.TheVariants as awaits
-use Rattle.fetch_wire.specs.declared.replies.reply.ReplyError.{ReplyError}
-use Rattle.fetch_wire.specs.declared.replies.reply.ParsedReply.{ParsedReply}
-use Rattle.fetch_wire.specs.declared.replies.reply.ParsedReply.TheVariants as told
-use Rattle.fetch_wire.specs.declared.error.WireError.TheVariants as wire
-use Rattle.fetch_wire.specs.declared.requests.records.FetchReply.{FetchReply}
+use Rattle.fetch_replies.specs.declared.replies.reply.ReplyContext.{ReplyContext}
+use Rattle.fetch_replies.specs.declared.replies.reply.ReplyKind.TheVariants as awaits
+use Rattle.fetch_replies.specs.declared.replies.reply.ReplyError.{ReplyError}
+use Rattle.fetch_replies.specs.declared.replies.reply.ParsedReply.{ParsedReply}
+use Rattle.fetch_replies.specs.declared.replies.reply.ParsedReply.TheVariants as told
+use Rattle.fetch_lines.specs.declared.error.WireError.TheVariants as wire
+use Rattle.fetch_lines.specs.declared.requests.records.FetchReply.{FetchReply}
 use Rattle.fetch_negotiate.specs.Lists.{firsts}
 use Rattle.fetch_negotiate.specs.Requests.{Asked, fetch_request}
 use Rattle.fetch_negotiate.specs.declared.algorithm.Shallow.{Shallow}

@@ -10,21 +10,21 @@ use Rattle.fetch_specs.specs.Specs.{Spec}
 use Rattle.fetch_specs.specs.Tagged.{tag_spec_of, is_tag_spec}
 use Rattle.fetch_specs.specs.declared.conflict.Conflict.{Conflict}
 use Rattle.fetch_specs.specs.declared.tags.Tags.{Tags}
-use Rattle.fetch_wire.specs.Greetings.{offers}
+use Rattle.fetch_lines.specs.Greetings.{offers}
 use Rattle.fetch_wire.specs.Parameters.{first_bad, texts_told}
-use Rattle.fetch_wire.specs.References.{name_in}
-use Rattle.fetch_wire.specs.Requests.{first_line, listing_lines}
+use Rattle.fetch_lines.specs.References.{name_in}
+use Rattle.fetch_lines.specs.Requests.{first_line, listing_lines}
 use Rattle.fetch_wire.specs.SessionStates.{error_of, listing_feature, turn_of, kind_of}
-use Rattle.fetch_wire.specs.Written.{first_too_long}
-use Rattle.fetch_wire.specs.declared.replies.reply.ReplyKind.TheVariants as awaits
-use Rattle.fetch_wire.specs.declared.replies.reply.ReplyError.{ReplyError}
-use Rattle.fetch_wire.specs.declared.replies.reply.ParsedReply.{ParsedReply}
-use Rattle.fetch_wire.specs.declared.replies.reply.ParsedReply.TheVariants as told
-use Rattle.fetch_wire.specs.declared.error.WireError.{WireError}
-use Rattle.fetch_wire.specs.declared.error.WireError.TheVariants as wire
-use Rattle.fetch_wire.specs.declared.greetings.handshake.Handshake.{Handshake}
-use Rattle.fetch_wire.specs.declared.listings.mapping.RefMap.{RefMap}
-use Rattle.fetch_wire.specs.declared.listings.reference.Ref.{Ref}
+use Rattle.fetch_lines.specs.Written.{first_too_long}
+use Rattle.fetch_replies.specs.declared.replies.reply.ReplyKind.TheVariants as awaits
+use Rattle.fetch_replies.specs.declared.replies.reply.ReplyError.{ReplyError}
+use Rattle.fetch_replies.specs.declared.replies.reply.ParsedReply.{ParsedReply}
+use Rattle.fetch_replies.specs.declared.replies.reply.ParsedReply.TheVariants as told
+use Rattle.fetch_lines.specs.declared.error.WireError.{WireError}
+use Rattle.fetch_lines.specs.declared.error.WireError.TheVariants as wire
+use Rattle.fetch_lines.specs.declared.greetings.handshake.Handshake.{Handshake}
+use Rattle.fetch_lines.specs.declared.listings.mapping.RefMap.{RefMap}
+use Rattle.fetch_lines.specs.declared.listings.reference.Ref.{Ref}
 use Rattle.fetch_wire.specs.declared.session.turn.Turn.TheVariants as turns
 use Rattle.fetch_conversation.specs.Conversation.{Conversation, ends, asks, asks_unless, asking}
 use Rattle.fetch_conversation.specs.Mapped.{ref_mappings}

@@ -8,13 +8,13 @@ use Rattle.fetch_specs.specs.declared.found.SourceRef.{SourceRef}
 use Rattle.fetch_specs.specs.declared.found.SourceRef.TheVariants as matched
 use Rattle.fetch_specs.specs.Matches.{mappings_of}
 use Rattle.fetch_specs.specs.Specs.{Spec}
-use Rattle.fetch_wire.specs.declared.listings.mapping.Mapping.{Mapping}
-use Rattle.fetch_wire.specs.declared.listings.mapping.SpecIndex.{SpecIndex}
-use Rattle.fetch_wire.specs.declared.listings.mapping.SpecIndex.TheVariants.{ExplicitInRemote, Implicit}
-use Rattle.fetch_wire.specs.declared.listings.reference.Ref.{Ref}
-use Rattle.fetch_wire.specs.declared.listings.reference.Source.{Source}
-use Rattle.fetch_wire.specs.declared.listings.reference.Source.TheVariants as sources
-use Rattle.fetch_wire.specs.References.{name_in}
+use Rattle.fetch_lines.specs.declared.listings.mapping.Mapping.{Mapping}
+use Rattle.fetch_lines.specs.declared.listings.mapping.SpecIndex.{SpecIndex}
+use Rattle.fetch_lines.specs.declared.listings.mapping.SpecIndex.TheVariants.{ExplicitInRemote, Implicit}
+use Rattle.fetch_lines.specs.declared.listings.reference.Ref.{Ref}
+use Rattle.fetch_lines.specs.declared.listings.reference.Source.{Source}
+use Rattle.fetch_lines.specs.declared.listings.reference.Source.TheVariants as sources
+use Rattle.fetch_lines.specs.References.{name_in}
 
 -- what a match takes: an id, or the listed reference at its index
 abbrev pub taken_by : List Ref → SourceRef → Option ℕ → Option Source

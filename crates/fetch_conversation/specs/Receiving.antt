@@ -1,6 +1,6 @@
 -- How often was received, and what was asked before.
 use Rattle.std.specs.Prelude.{◌≡◌, ℕ, ◌+◌, ◌<◌, Bool, length, Option, Some, None, Result, Ok, Err, ⊤, if◌then◌else◌}
-use Rattle.fetch_wire.specs.Talks.{Talk}
+use Rattle.fetch_lines.specs.Talks.{Talk}
 
 -- that many receives were made, where it is told
 abbrev pub HasReceived : ℕ → Option Talk → Option Talk → Type 0

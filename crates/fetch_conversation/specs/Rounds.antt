@@ -2,8 +2,8 @@
 use Rattle.std.specs.Prelude.{ℕ, zero, suc, Bool, ◌||◌, List, [], ◌∷◌, ◌++◌, length, Ok, Err, nat_lt, if◌then◌else◌}
 use Rattle.fetch_base.specs.declared.id.ObjectId.{ObjectId}
 use Rattle.fetch_store.specs.Graph.{Graph}
-use Rattle.fetch_wire.specs.KnownIds.{each_once}
-use Rattle.fetch_wire.specs.declared.requests.records.FetchReply.{FetchReply}
+use Rattle.fetch_lines.specs.KnownIds.{each_once}
+use Rattle.fetch_lines.specs.declared.requests.records.FetchReply.{FetchReply}
 use Rattle.fetch_negotiate.specs.Any.{begun}
 use Rattle.fetch_negotiate.specs.Haves.{Negotiation}
 use Rattle.fetch_negotiate.specs.Rounds.{sharing_all}

@@ -1,13 +1,13 @@
 -- A conversation with one who answers each request by itself.
 use Rattle.std.specs.Prelude.{◌≡◌, ◌≢◌, ◌⊎◌, ℕ, Bool, List, [], ◌++◌, Option, Some, Result, Ok, Err, ⊤, IsTrue}
 use Rattle.std.specs.List.{AllByRecursion, flat_map}
-use Rattle.fetch_wire.specs.Awaited.{told_at}
-use Rattle.fetch_wire.specs.Talks.{Talk, IsFront}
-use Rattle.fetch_wire.specs.Written.{lines_text}
-use Rattle.fetch_wire.specs.declared.replies.reply.ReplyError.{ReplyError}
-use Rattle.fetch_wire.specs.declared.replies.reply.ReplyError.TheVariants.{Short}
-use Rattle.fetch_wire.specs.declared.replies.reply.ParsedReply.{ParsedReply}
-use Rattle.fetch_wire.specs.declared.lines.line.Line.{Line}
+use Rattle.fetch_replies.specs.Awaited.{told_at}
+use Rattle.fetch_lines.specs.Talks.{Talk, IsFront}
+use Rattle.fetch_lines.specs.Written.{lines_text}
+use Rattle.fetch_replies.specs.declared.replies.reply.ReplyError.{ReplyError}
+use Rattle.fetch_replies.specs.declared.replies.reply.ReplyError.TheVariants.{Short}
+use Rattle.fetch_replies.specs.declared.replies.reply.ParsedReply.{ParsedReply}
+use Rattle.fetch_lines.specs.declared.lines.line.Line.{Line}
 use Rattle.fetch_conversation.specs.Conversation.{Conversation, ends, asks, after_reply}
 
 -- how a conversation goes with one who gives this reply to each request

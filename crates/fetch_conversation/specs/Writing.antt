@@ -5,23 +5,23 @@ use Rattle.fetch_specs.specs.Conflicts.{conflicts_of}
 use Rattle.fetch_specs.specs.Matches.{mappings_of}
 use Rattle.fetch_store.specs.Graph.{Graph}
 use Rattle.fetch_base.specs.declared.id.ObjectId.{ObjectId}
-use Rattle.fetch_wire.specs.Bands.{Band}
-use Rattle.fetch_wire.specs.KnownIds.{has_id, each_once}
-use Rattle.fetch_wire.specs.Greetings.{handshake_of, offers}
-use Rattle.fetch_wire.specs.Lines.{line_len}
-use Rattle.fetch_wire.specs.NamesTold.{AreNamedOnce}
-use Rattle.fetch_wire.specs.References.{name_in}
-use Rattle.fetch_wire.specs.Requests.{listing_lines}
-use Rattle.fetch_wire.specs.ServerLines.{greeting_lines, IsTellable, listing_lines_of, IsListable, IsIdOf, round_lines, in_round}
-use Rattle.fetch_wire.specs.ServerLines.{BorderChange, IsChangeOf, last_lines, at_last, ready_lines}
+use Rattle.fetch_lines.specs.Bands.{Band}
+use Rattle.fetch_lines.specs.KnownIds.{has_id, each_once}
+use Rattle.fetch_lines.specs.Greetings.{handshake_of, offers}
+use Rattle.fetch_lines.specs.Lines.{line_len}
+use Rattle.fetch_replies.specs.NamesTold.{AreNamedOnce}
+use Rattle.fetch_lines.specs.References.{name_in}
+use Rattle.fetch_lines.specs.Requests.{listing_lines}
+use Rattle.fetch_lines.specs.ServerLines.{greeting_lines, IsTellable, listing_lines_of, IsListable, IsIdOf, round_lines, in_round}
+use Rattle.fetch_lines.specs.ServerLines.{BorderChange, IsChangeOf, last_lines, at_last, ready_lines}
 use Rattle.fetch_wire.specs.SessionStates.{listing_feature}
-use Rattle.fetch_wire.specs.Written.{lines_text, first_too_long}
-use Rattle.fetch_wire.specs.declared.replies.reply.ReplyContext.{ReplyContext}
-use Rattle.fetch_wire.specs.declared.greetings.handshake.Capability.{Capability}
-use Rattle.fetch_wire.specs.declared.greetings.handshake.Handshake.{Handshake}
-use Rattle.fetch_wire.specs.declared.lines.line.Line.{Line}
-use Rattle.fetch_wire.specs.declared.requests.records.FetchReply.{FetchReply}
-use Rattle.fetch_wire.specs.declared.listings.reference.Ref.{Ref}
+use Rattle.fetch_lines.specs.Written.{lines_text, first_too_long}
+use Rattle.fetch_replies.specs.declared.replies.reply.ReplyContext.{ReplyContext}
+use Rattle.fetch_lines.specs.declared.greetings.handshake.Capability.{Capability}
+use Rattle.fetch_lines.specs.declared.greetings.handshake.Handshake.{Handshake}
+use Rattle.fetch_lines.specs.declared.lines.line.Line.{Line}
+use Rattle.fetch_lines.specs.declared.requests.records.FetchReply.{FetchReply}
+use Rattle.fetch_lines.specs.declared.listings.reference.Ref.{Ref}
 use Rattle.fetch_negotiate.specs.Requests.{fetch_request}
 use Rattle.fetch_negotiate.specs.declared.algorithm.Algorithm.{Algorithm}
 use Rattle.fetch_conversation.specs.ConverseStage.{algorithm_in, rejected}

@@ -5,10 +5,10 @@ ghost use Rattle.fetch_conversation.specs.Blame.{BlamesPeer, BlamesInterrupt, is
 ghost use Rattle.fetch_conversation.specs.Receiving.{last_question};
 ghost use Rattle.fetch_conversation.specs.Drives.{IsDrivable, Drives, IsDriven, IsUnsent, RunsOut, Takes, made_by};
 ghost use Rattle.fetch_conversation.specs.declared.drive.DriveError.TheVariants as stops;
-ghost use Rattle.fetch_wire.specs.declared.error.WireError.TheVariants as wire;
+ghost use Rattle.fetch_lines.specs.declared.error.WireError.TheVariants as wire;
 ghost use Rattle.fetch_conversation.specs.Errors.{is_failed, is_yes};
 ghost use Rattle.fetch_wire.specs.SessionStates.{turn_of, IsAwaiting};
-ghost use Rattle.fetch_wire.specs.Talks.{Sends, Makes};
+ghost use Rattle.fetch_lines.specs.Talks.{Sends, Makes};
 ghost use Rattle.fetch_wire.specs.declared.session.turn.Turn.TheVariants as turns;
 
 use crate::progress::Progress;

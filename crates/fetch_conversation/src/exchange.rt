@@ -11,7 +11,7 @@ ghost use Rattle.fetch_conversation.specs.Exchange.{asked_by, haves_told};
 ghost use Rattle.fetch_conversation.specs.ListStage.{IsReady, IsReadyAgain, shown, pending_of};
 ghost use Rattle.fetch_conversation.specs.declared.fetch.Error.TheVariants as errors;
 ghost use Rattle.fetch_negotiate.specs.Requests.{fetch_request};
-ghost use Rattle.fetch_wire.specs.Written.{first_too_long, TellsTooLong};
+ghost use Rattle.fetch_lines.specs.Written.{first_too_long, TellsTooLong};
 
 use crate::conversing::FetchArguments;
 use crate::drive::drive;

@@ -2,15 +2,15 @@
 
 ghost use Rattle.std.specs.Prelude.{◌≡◌, ℕ, suc, ◌+◌, ◌++◌, Bool, true, false, List, [], Option, Some, Result, Ok, Err};
 ghost use Rattle.std.specs.FinMap as map;
-ghost use Rattle.fetch_wire.specs.Talks.{Talk};
-ghost use Rattle.fetch_wire.specs.declared.lines.line.Line.{Line};
+ghost use Rattle.fetch_lines.specs.Talks.{Talk};
+ghost use Rattle.fetch_lines.specs.declared.lines.line.Line.{Line};
 ghost use Rattle.fetch_store.specs.Graph.{Graph};
 ghost use Rattle.fetch_negotiate.specs.declared.algorithm.Algorithm.{Algorithm};
 ghost use Rattle.fetch_negotiate.specs.declared.algorithm.Round.{Round};
 ghost use Rattle.fetch_pack.specs.Reading.{Contents};
-ghost use Rattle.fetch_wire.specs.Greetings.{handshake_of};
-ghost use Rattle.fetch_wire.specs.declared.greetings.handshake.Capability.{Capability};
-ghost use Rattle.fetch_wire.specs.declared.listings.reference.Ref.{Ref};
+ghost use Rattle.fetch_lines.specs.Greetings.{handshake_of};
+ghost use Rattle.fetch_lines.specs.declared.greetings.handshake.Capability.{Capability};
+ghost use Rattle.fetch_lines.specs.declared.listings.reference.Ref.{Ref};
 ghost use Rattle.fetch_conversation.specs.Conversation.{Conversation, Concludes, Breaks, HasValidReplies, sent_in, answer_in};
 ghost use Rattle.fetch_conversation.specs.ConverseStage.{converse_stage, with_pack};
 ghost use Rattle.fetch_conversation.specs.Exchange.{FetchArgumentsValue};

@@ -5,7 +5,7 @@ ghost use Rattle.std.specs.List.{filter_map};
 ghost use Rattle.fetch_specs.specs.Conflicts.{conflicts_of};
 ghost use Rattle.fetch_specs.specs.Matches.{mappings_of};
 ghost use Rattle.fetch_conversation.specs.Listing.{TellsConflicts};
-ghost use Rattle.fetch_wire.specs.References.{name_in};
+ghost use Rattle.fetch_lines.specs.References.{name_in};
 ghost use Rattle.fetch_conversation.specs.Mapped.{taken_by, index_among, mapping_by, ref_mappings};
 
 use crate::ref_map;

@@ -1,8 +1,8 @@
 //! Why nothing is sent for a pack.
 
 ghost use Rattle.std.specs.Prelude.{◌≡◌, ◌||◌, not, None, Some, IfErr, OnOk, length};
-ghost use Rattle.fetch_wire.specs.Greetings.{has_word, value_of};
-ghost use Rattle.fetch_wire.specs.RequestWords.{plain_pack, plain_pack_2};
+ghost use Rattle.fetch_lines.specs.Greetings.{has_word, value_of};
+ghost use Rattle.fetch_lines.specs.RequestWords.{plain_pack, plain_pack_2};
 ghost use Rattle.std.specs.List.{list_any};
 ghost use Rattle.std.specs.Option.{option_copied, option_or};
 ghost use Rattle.fetch_conversation.specs.ConverseStage as spec;
@@ -162,7 +162,7 @@ fn needs_border(border: &Border, shallow: &Shallow) -> bool
 }
 
 /// Whether plain packs of either version are offered.
-#[tactic(auto, unfolding(crate::specs::ConverseStage::fetch_feature, fetch_wire::specs::RequestWords::plain_pack, fetch_wire::specs::RequestWords::plain_pack_2))]
+#[tactic(auto, unfolding(crate::specs::ConverseStage::fetch_feature, fetch_lines::specs::RequestWords::plain_pack, fetch_lines::specs::RequestWords::plain_pack_2))]
 fn offers_packs(handshake: &Handshake) -> bool
     ensures { result ≡ (has_word plain_pack (value_of spec.fetch_feature handshake.now.capabilities)
         || has_word plain_pack_2 (value_of spec.fetch_feature handshake.now.capabilities)) }

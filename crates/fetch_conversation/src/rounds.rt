@@ -5,7 +5,7 @@ ghost use Rattle.std.specs.FinMap as map;
 ghost use Rattle.fetch_conversation.specs.Blame.{BlamesPeer, BlamesInterrupt, is_told};
 ghost use Rattle.fetch_conversation.specs.Receiving.{last_question};
 ghost use Rattle.fetch_base.specs.declared.id.ObjectId.{ObjectId as Id};
-ghost use Rattle.fetch_wire.specs.KnownIds.{each_once};
+ghost use Rattle.fetch_lines.specs.KnownIds.{each_once};
 ghost use Rattle.fetch_negotiate.specs.Any.{algorithm_of, known_by, so_far_of};
 ghost use Rattle.fetch_negotiate.specs.Reading.{IsTold};
 ghost use Rattle.fetch_negotiate.specs.Rounds.{sharing_all};

@@ -1,8 +1,8 @@
 -- Which errors tell of a fault of the peer, and which of a stop.
 use Rattle.std.proofs.Common.{◌≡◌, Bool, true, false, refl, ◌∙◌, sym, ap}
 use Rattle.std.specs.Prelude.{◌↔◌}
-use Rattle.fetch_wire.specs.declared.error.WireError.{WireError}
-use Rattle.fetch_wire.specs.declared.error.WireError.TheVariants as wire
+use Rattle.fetch_lines.specs.declared.error.WireError.{WireError}
+use Rattle.fetch_lines.specs.declared.error.WireError.TheVariants as wire
 use Rattle.fetch_pack.specs.declared.error.PackError.{PackError}
 use Rattle.fetch_pack.specs.declared.error.PackError.TheVariants as pack
 use Rattle.fetch_update.specs.declared.update.Error.{Error as UpdateError}

@@ -2,8 +2,8 @@
 use Rattle.std.specs.Prelude.{◌≡◌, ℕ, ◌+◌, ◌-◌, ◌^◌, min, Option}
 use Rattle.std.specs.declared.io.ErrorKind.{ErrorKind}
 use Rattle.fetch_base.specs.Faults.{Rose, Counts, counted}
-use Rattle.fetch_wire.specs.declared.session.peer.SendFault.{SendFault}
-use Rattle.fetch_wire.specs.declared.session.peer.SendFault.TheVariants as faults
+use Rattle.fetch_lines.specs.declared.peer.SendFault.{SendFault}
+use Rattle.fetch_lines.specs.declared.peer.SendFault.TheVariants as faults
 
 -- a peer over a reader and a writer: how many bytes passed each way, how often it failed, and the kind of its last error
 pub record Stream (R W : Type 0) : Type 0 where

@@ -2,7 +2,7 @@
 
 ghost use Rattle.std.specs.Prelude.{◌≡◌, ◌<◌, ◌≤◌, [], ◌∷◌, length, IfOk, OnOk, OnErr, IsErrOf, None, Some, IsSome, false};
 ghost use Rattle.fetch_base.specs.Faults.{Rose, Counts, counted};
-ghost use Rattle.fetch_wire.specs.Talks.{Makes, Receives, Sends, at_once};
+ghost use Rattle.fetch_lines.specs.Talks.{Makes, Receives, Sends, at_once};
 ghost use Rattle.fetch_host.specs.Streams.{more_by};
 
 use fetch_store::Failed;

@@ -4,10 +4,10 @@ use Rattle.std.specs.List.{list_any}
 use Rattle.std.specs.Option.{option_or}
 use Rattle.fetch_base.specs.declared.id.Kind.{Kind}
 use Rattle.fetch_base.specs.declared.id.Kind.TheVariants.{Sha1, Sha256}
-use Rattle.fetch_wire.specs.Greetings.{format_in, is_format}
-use Rattle.fetch_wire.specs.RequestWords.{plain_pack, plain_pack_2}
-use Rattle.fetch_wire.specs.Requests.{kind_text}
-use Rattle.fetch_wire.specs.declared.greetings.handshake.Handshake.{Handshake}
+use Rattle.fetch_lines.specs.Greetings.{format_in, is_format}
+use Rattle.fetch_lines.specs.RequestWords.{plain_pack, plain_pack_2}
+use Rattle.fetch_lines.specs.Requests.{kind_text}
+use Rattle.fetch_lines.specs.declared.greetings.handshake.Handshake.{Handshake}
 use Rattle.fetch_negotiate.specs.declared.algorithm.Algorithm.{Algorithm}
 use Rattle.fetch_negotiate.specs.declared.algorithm.Algorithm.TheVariants.{Noop}
 use Rattle.fetch_conversation.specs.ConverseStage.{algorithm_in, algorithm_told, fetch_feature, lacked, lacking, names_one, needs_shallow, no_mapping, other_hash, shallow_feature, specs_of, unfit, unlike, unread_as}

@@ -5,16 +5,16 @@ use Rattle.std.proofs.lemmas.List.{append-nil, append_cancel_left}
 use Rattle.std.proofs.lemmas.List.Concat.{flat_map-append}
 use Rattle.std.proofs.Math.Seq.{drop-append_seam}
 use Rattle.fetch_mirror.specs.Along.{added, Grows, IsDead, answer_along, IsReadAlong, IsAlong}
-use Rattle.fetch_wire.specs.Awaited.{step_of, start_of, told_at}
-use Rattle.fetch_wire.specs.declared.replies.reply.ReplyKind.{ReplyKind}
-use Rattle.fetch_wire.specs.declared.replies.reply.ParsedReply.{ParsedReply}
+use Rattle.fetch_replies.specs.Awaited.{step_of, start_of, told_at}
+use Rattle.fetch_replies.specs.declared.replies.reply.ReplyKind.{ReplyKind}
+use Rattle.fetch_replies.specs.declared.replies.reply.ParsedReply.{ParsedReply}
 use Rattle.fetch_conversation.specs.Conversation.{Conversation, ends, asks, sent_in, answer_in, after_reply, beside, RefusesWith, IsRefusedBy, Concludes, Breaks}
-use Rattle.fetch_wire.specs.Written.{line_text, lines_text}
+use Rattle.fetch_lines.specs.Written.{line_text, lines_text}
 use Rattle.fetch_conversation.specs.Served.{IsOver, without_rest, IsFresh, Follows}
-use Rattle.fetch_wire.specs.declared.replies.reply.ReplyError.{ReplyError}
-use Rattle.fetch_wire.specs.declared.replies.reply.ReplyError.TheVariants.{Short}
-use Rattle.fetch_wire.specs.StepLaws.{read_by-more, with_more, IsSettled}
-use Rattle.fetch_wire.specs.Talks.{Talk, Talks, Passes}
+use Rattle.fetch_replies.specs.declared.replies.reply.ReplyError.{ReplyError}
+use Rattle.fetch_replies.specs.declared.replies.reply.ReplyError.TheVariants.{Short}
+use Rattle.fetch_replies.specs.StepLaws.{read_by-more, with_more, IsSettled}
+use Rattle.fetch_lines.specs.Talks.{Talk, Talks, Passes}
 
 at_end : {X E : Type 0} (stream : List ℕ) (answer : Result X E) → without_rest (beside stream answer) ≡ answer
 at_end stream (Ok x) = refl

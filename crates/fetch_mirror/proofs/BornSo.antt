@@ -11,9 +11,9 @@ use Rattle.fetch_specs.specs.Categories.{refs}
 use Rattle.fetch_specs.specs.Names.{is_full_name}
 use Rattle.fetch_refs.specs.Peeled.{resolved}
 use Rattle.fetch_refs.specs.declared.target.Target.{Target}
-use Rattle.fetch_wire.specs.Listings.{ref_with}
-use Rattle.fetch_wire.specs.declared.listings.reference.Ref.{Ref}
-use Rattle.fetch_wire.specs.declared.listings.reference.Ref.TheVariants.{Unborn}
+use Rattle.fetch_replies.specs.Listings.{ref_with}
+use Rattle.fetch_lines.specs.declared.listings.reference.Ref.{Ref}
+use Rattle.fetch_lines.specs.declared.listings.reference.Ref.TheVariants.{Unborn}
 use Rattle.fetch_serve.specs.Offered.{head_name, if_told, listed, offer, offered_of, peeled_behind, target_of}
 use Rattle.fetch_serve.specs.Served.{Data, history_of}
 use Rattle.fetch_mirror.specs.Born.{born, born_names}

@@ -5,7 +5,7 @@ use Rattle.std.proofs.lemmas.List.{replicate_more}
 use Rattle.fetch_store.specs.Borders.{IdSet}
 use Rattle.fetch_base.specs.declared.id.Kind.{Kind}
 use Rattle.fetch_refs.specs.declared.log.Signature.{Signature}
-use Rattle.fetch_wire.specs.Talks.{Talk}
+use Rattle.fetch_lines.specs.Talks.{Talk}
 use Rattle.fetch_remote.specs.RepositoryValues.{RepositoryValue}
 use Rattle.fetch_serve.specs.Peers.{ServedPeer, faults_of, heard_by, talk_with, told_by}
 use Rattle.fetch_serve.specs.Replies.{replies_of}

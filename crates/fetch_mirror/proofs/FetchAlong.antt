@@ -1,7 +1,7 @@
 -- The conversation of a fetch, along the replies of a rule.
 use Rattle.std.proofs.Common.{◌≡◌, ℕ, Bool, false, List, [], Option, Some, Ok, Err, sym, ap, ◌∙◌}
-use Rattle.fetch_wire.specs.Talks.{Talk}
-use Rattle.fetch_wire.specs.Written.{lines_text}
+use Rattle.fetch_lines.specs.Talks.{Talk}
+use Rattle.fetch_lines.specs.Written.{lines_text}
 use Rattle.fetch_conversation.specs.Served.{IsFresh, Follows}
 use Rattle.fetch_remote.specs.Errors.{preparing, receiving, is_free, is_yes}
 use Rattle.fetch_remote.specs.Fetched.{HasHeard}

@@ -11,19 +11,19 @@ use Rattle.fetch_base.specs.declared.id.ObjectId.{ObjectId}
 use Rattle.fetch_specs.specs.declared.tags.Tags.{Tags}
 use Rattle.fetch_specs.specs.declared.tags.Tags.TheVariants as tags
 use Rattle.fetch_pack.specs.declared.version.PackVersion.TheVariants.{V2}
-use Rattle.fetch_wire.specs.Greetings.{format_in, is_format}
-use Rattle.fetch_wire.specs.LinesTold.{Tells}
-use Rattle.fetch_wire.specs.RequestLines.{id_lines}
-use Rattle.fetch_wire.specs.RequestWords.{agent_word, command_word, done_word, format_is, format_word, have_word, include_tag, plain_pack, plain_pack_2, shallow_word, want_word}
-use Rattle.fetch_wire.specs.Requests.{kind_text, listing_word, sent, text_line, when}
-use Rattle.fetch_wire.specs.ServerLines.{IsIdOf}
-use Rattle.fetch_wire.specs.Stepping.{goes}
-use Rattle.fetch_wire.specs.Texts.{without_lf}
-use Rattle.fetch_wire.specs.declared.greetings.handshake.Handshake.{Handshake}
-use Rattle.fetch_wire.specs.declared.lines.line.Line.{Line}
-use Rattle.fetch_wire.specs.declared.lines.line.Line.TheVariants.{Delim, Flush}
-use Rattle.fetch_wire.proofs.IdTexts.{id_read}
-use Rattle.fetch_wire.proofs.Moving.{Moves, first_tells, lf_last, moves_tell}
+use Rattle.fetch_lines.specs.Greetings.{format_in, is_format}
+use Rattle.fetch_replies.specs.LinesTold.{Tells}
+use Rattle.fetch_lines.specs.RequestLines.{id_lines}
+use Rattle.fetch_lines.specs.RequestWords.{agent_word, command_word, done_word, format_is, format_word, have_word, include_tag, plain_pack, plain_pack_2, shallow_word, want_word}
+use Rattle.fetch_lines.specs.Requests.{kind_text, listing_word, sent, text_line, when}
+use Rattle.fetch_lines.specs.ServerLines.{IsIdOf}
+use Rattle.fetch_replies.specs.Stepping.{goes}
+use Rattle.fetch_lines.specs.Texts.{without_lf}
+use Rattle.fetch_lines.specs.declared.greetings.handshake.Handshake.{Handshake}
+use Rattle.fetch_lines.specs.declared.lines.line.Line.{Line}
+use Rattle.fetch_lines.specs.declared.lines.line.Line.TheVariants.{Delim, Flush}
+use Rattle.fetch_replies.proofs.IdTexts.{id_read}
+use Rattle.fetch_replies.proofs.Moving.{Moves, first_tells, lf_last, moves_tell}
 use Rattle.fetch_negotiate.specs.Requests.{Asked as Request, depth_lines, fetch_request, head_of, is_included, pack_word}
 use Rattle.fetch_negotiate.specs.declared.algorithm.Shallow.{Shallow}
 use Rattle.fetch_negotiate.specs.declared.algorithm.Shallow.TheVariants.{NoChange}

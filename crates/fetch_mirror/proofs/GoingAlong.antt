@@ -4,16 +4,16 @@ use Rattle.std.specs.Prelude.{◌≢◌}
 use Rattle.std.proofs.lemmas.List.{append-nil}
 use Rattle.fetch_mirror.proofs.Along.{added-is}
 use Rattle.fetch_mirror.specs.Along.{added, IsDead, answer_along, sent_along, IsReadAlong, IsAlong}
-use Rattle.fetch_wire.specs.Awaited.{step_of, start_of, told_at}
-use Rattle.fetch_wire.specs.declared.replies.reply.ReplyKind.{ReplyKind}
-use Rattle.fetch_wire.specs.declared.replies.reply.ParsedReply.{ParsedReply}
+use Rattle.fetch_replies.specs.Awaited.{step_of, start_of, told_at}
+use Rattle.fetch_replies.specs.declared.replies.reply.ReplyKind.{ReplyKind}
+use Rattle.fetch_replies.specs.declared.replies.reply.ParsedReply.{ParsedReply}
 use Rattle.fetch_conversation.specs.Conversation.{Conversation, ends, asks, after_reply}
-use Rattle.fetch_wire.specs.Written.{lines_text}
-use Rattle.fetch_wire.specs.declared.lines.line.Line.{Line}
-use Rattle.fetch_wire.specs.declared.replies.reply.ReplyError.{ReplyError}
-use Rattle.fetch_wire.specs.declared.replies.reply.ReplyError.TheVariants.{Short}
-use Rattle.fetch_wire.specs.Lines.{line_at}
-use Rattle.fetch_wire.specs.Stepping.{Step, read_within, read_by}
+use Rattle.fetch_lines.specs.Written.{lines_text}
+use Rattle.fetch_lines.specs.declared.lines.line.Line.{Line}
+use Rattle.fetch_replies.specs.declared.replies.reply.ReplyError.{ReplyError}
+use Rattle.fetch_replies.specs.declared.replies.reply.ReplyError.TheVariants.{Short}
+use Rattle.fetch_lines.specs.Lines.{line_at}
+use Rattle.fetch_replies.specs.Stepping.{Step, read_within, read_by}
 use Rattle.fetch_mirror.specs.GoingAlong.{GoesAlong, IsAlongByCases}
 
 -- Of nothing a reading is short.

@@ -5,15 +5,15 @@ use Rattle.std.proofs.lemmas.List.{append-nil}
 use Rattle.std.proofs.lemmas.List.Concat.{flat_map-append}
 use Rattle.fetch_mirror.proofs.Along.{given_by, sent_more, others_next, nothing_next, stays, settled_refusal, settled_told}
 use Rattle.fetch_mirror.specs.Along.{added, Grows, IsDead, IsReadAlong, IsAlong, sent_along}
-use Rattle.fetch_wire.specs.Awaited.{told_at}
-use Rattle.fetch_wire.specs.declared.replies.reply.ReplyKind.{ReplyKind}
-use Rattle.fetch_wire.specs.declared.replies.reply.ParsedReply.{ParsedReply}
+use Rattle.fetch_replies.specs.Awaited.{told_at}
+use Rattle.fetch_replies.specs.declared.replies.reply.ReplyKind.{ReplyKind}
+use Rattle.fetch_replies.specs.declared.replies.reply.ParsedReply.{ParsedReply}
 use Rattle.fetch_conversation.specs.Conversation.{Conversation, ends, asks, sent_in, after_reply, IsRefusedBy, Concludes, Breaks}
-use Rattle.fetch_wire.specs.Written.{line_text, lines_text}
-use Rattle.fetch_wire.specs.declared.lines.line.Line.{Line}
+use Rattle.fetch_lines.specs.Written.{line_text, lines_text}
+use Rattle.fetch_lines.specs.declared.lines.line.Line.{Line}
 use Rattle.fetch_conversation.specs.Served.{IsOver, IsFresh, Follows}
-use Rattle.fetch_wire.specs.declared.replies.reply.ReplyError.{ReplyError}
-use Rattle.fetch_wire.specs.Talks.{Talk, Talks, Passes, IsFront}
+use Rattle.fetch_replies.specs.declared.replies.reply.ReplyError.{ReplyError}
+use Rattle.fetch_lines.specs.Talks.{Talk, Talks, Passes, IsFront}
 
 -- ---- fronts
 

@@ -20,14 +20,14 @@ use Rattle.fetch_specs.specs.Parses.{head, id_named}
 use Rattle.fetch_specs.specs.Prefixes.{asks_for_all, expansions, prefixes_of, second_slash, source_prefixes, spec_prefixes}
 use Rattle.fetch_specs.proofs.Ascending.{is_listing}
 use Rattle.fetch_refs.specs.declared.target.Target.{Target}
-use Rattle.fetch_wire.specs.Greetings.{format_in, is_format}
-use Rattle.fetch_wire.specs.RequestLines.{id_lines}
-use Rattle.fetch_wire.specs.RequestWords.{agent_word, command_word, done_word, format_is, format_word, plain_pack, plain_pack_2, shallow_word, want_word}
-use Rattle.fetch_wire.specs.Requests.{detail_texts, kind_text, listing_lines, listing_word, prefix_text, sent, text_line}
-use Rattle.fetch_wire.specs.ServerLines.{IsIdOf}
-use Rattle.fetch_wire.specs.Written.{first_too_long, too_long_in}
-use Rattle.fetch_wire.specs.declared.lines.line.Line.{Line}
-use Rattle.fetch_wire.specs.declared.lines.line.Line.TheVariants.{Delim, Flush}
+use Rattle.fetch_lines.specs.Greetings.{format_in, is_format}
+use Rattle.fetch_lines.specs.RequestLines.{id_lines}
+use Rattle.fetch_lines.specs.RequestWords.{agent_word, command_word, done_word, format_is, format_word, plain_pack, plain_pack_2, shallow_word, want_word}
+use Rattle.fetch_lines.specs.Requests.{detail_texts, kind_text, listing_lines, listing_word, prefix_text, sent, text_line}
+use Rattle.fetch_lines.specs.ServerLines.{IsIdOf}
+use Rattle.fetch_lines.specs.Written.{first_too_long, too_long_in}
+use Rattle.fetch_lines.specs.declared.lines.line.Line.{Line}
+use Rattle.fetch_lines.specs.declared.lines.line.Line.TheVariants.{Delim, Flush}
 use Rattle.fetch_negotiate.specs.Requests.{Asked as Request, fetch_request}
 use Rattle.fetch_serve.specs.Offered.{capabilities_of}
 use Rattle.fetch_serve.specs.Requests.{format_text}

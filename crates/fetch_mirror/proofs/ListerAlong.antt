@@ -5,13 +5,13 @@ use Rattle.fetch_base.specs.declared.id.Kind.{Kind}
 use Rattle.fetch_base.specs.declared.id.Kind.TheVariants.{Sha1, Sha256}
 use Rattle.fetch_specs.specs.Categories.{refs}
 use Rattle.fetch_specs.specs.Prefixes.{prefixes_of}
-use Rattle.fetch_wire.specs.Greetings.{format_in, is_format}
-use Rattle.fetch_wire.specs.Lines.{line_len}
-use Rattle.fetch_wire.specs.RequestWords.{agent_is, agent_word, format_is, format_word}
-use Rattle.fetch_wire.specs.Requests.{agent_text, detail_texts, kind_text, listing_lines, listing_word}
-use Rattle.fetch_wire.specs.Talks.{Talk}
-use Rattle.fetch_wire.specs.Written.{first_too_long}
-use Rattle.fetch_wire.specs.declared.listings.mapping.RefMap.{RefMap}
+use Rattle.fetch_lines.specs.Greetings.{format_in, is_format}
+use Rattle.fetch_lines.specs.Lines.{line_len}
+use Rattle.fetch_lines.specs.RequestWords.{agent_is, agent_word, format_is, format_word}
+use Rattle.fetch_lines.specs.Requests.{agent_text, detail_texts, kind_text, listing_lines, listing_word}
+use Rattle.fetch_lines.specs.Talks.{Talk}
+use Rattle.fetch_lines.specs.Written.{first_too_long}
+use Rattle.fetch_lines.specs.declared.listings.mapping.RefMap.{RefMap}
 use Rattle.fetch_conversation.specs.Conversation.{Concludes}
 use Rattle.fetch_conversation.specs.ListStage.{ListedValue, ls_refs_stage, mapped, prefixes_asked, unsendable}
 use Rattle.fetch_conversation.specs.Served.{Follows, IsFresh}

@@ -8,19 +8,19 @@ use Rattle.fetch_base.specs.Faults.{Faults, Rose}
 use Rattle.fetch_base.specs.declared.id.Kind.{Kind}
 use Rattle.fetch_base.specs.declared.id.Kind.TheVariants.{Sha1}
 use Rattle.fetch_refs.specs.declared.log.Signature.{Signature}
-use Rattle.fetch_wire.specs.Awaited.{start_of, step_of, told_at}
-use Rattle.fetch_wire.specs.Lines.{line_len}
-use Rattle.fetch_wire.specs.Requests.{first_line, listing_lines}
-use Rattle.fetch_wire.specs.Talks.{IsFront, Talk}
-use Rattle.fetch_wire.specs.Written.{first_too_long, line_text, lines_text}
-use Rattle.fetch_wire.specs.declared.error.WireError.TheVariants.{ReplyTooLong}
-use Rattle.fetch_wire.specs.declared.lines.line.Line.{Line}
-use Rattle.fetch_wire.specs.declared.replies.reply.ReplyKind.TheVariants as await
-use Rattle.fetch_wire.specs.declared.replies.reply.ReplyError.{ReplyError}
-use Rattle.fetch_wire.specs.declared.replies.reply.ReplyError.TheVariants.{TooLong}
-use Rattle.fetch_wire.specs.declared.replies.reply.ParsedReply.{ParsedReply}
-use Rattle.fetch_wire.specs.declared.replies.reply.ParsedReply.TheVariants as told
-use Rattle.fetch_wire.proofs.GreetingLines.{greeting_tells}
+use Rattle.fetch_replies.specs.Awaited.{start_of, step_of, told_at}
+use Rattle.fetch_lines.specs.Lines.{line_len}
+use Rattle.fetch_lines.specs.Requests.{first_line, listing_lines}
+use Rattle.fetch_lines.specs.Talks.{IsFront, Talk}
+use Rattle.fetch_lines.specs.Written.{first_too_long, line_text, lines_text}
+use Rattle.fetch_lines.specs.declared.error.WireError.TheVariants.{ReplyTooLong}
+use Rattle.fetch_lines.specs.declared.lines.line.Line.{Line}
+use Rattle.fetch_replies.specs.declared.replies.reply.ReplyKind.TheVariants as await
+use Rattle.fetch_replies.specs.declared.replies.reply.ReplyError.{ReplyError}
+use Rattle.fetch_replies.specs.declared.replies.reply.ReplyError.TheVariants.{TooLong}
+use Rattle.fetch_replies.specs.declared.replies.reply.ParsedReply.{ParsedReply}
+use Rattle.fetch_replies.specs.declared.replies.reply.ParsedReply.TheVariants as told
+use Rattle.fetch_replies.proofs.GreetingLines.{greeting_tells}
 use Rattle.fetch_conversation.specs.Errors.{is_free_listing, is_interrupted, is_transport}
 use Rattle.fetch_conversation.specs.Served.{Follows}
 use Rattle.fetch_conversation.specs.ListStage.{LsRefsValue, ListedValue, failed, ls_refs_stage, prefixes_asked}

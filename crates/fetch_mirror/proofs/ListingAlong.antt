@@ -2,16 +2,16 @@
 use Rattle.std.proofs.Common.{◌≡◌, ℕ, ◌<◌, ◌≤◌, true, false, List, [], ◌∷◌, ◌++◌, Option, Some, None, Result, Ok, Err, refl, sym, ap, subst, ◌∙◌, codes, sum_by, arith}
 use Rattle.fetch_base.specs.declared.id.Kind.{Kind}
 use Rattle.fetch_base.specs.declared.id.Kind.TheVariants.{Sha1, Sha256}
-use Rattle.fetch_wire.specs.Greetings.{format_in, is_format}
-use Rattle.fetch_wire.specs.Lines.{line_len}
-use Rattle.fetch_wire.specs.Requests.{first_line, kind_text, listing_lines}
+use Rattle.fetch_lines.specs.Greetings.{format_in, is_format}
+use Rattle.fetch_lines.specs.Lines.{line_len}
+use Rattle.fetch_lines.specs.Requests.{first_line, kind_text, listing_lines}
 use Rattle.fetch_wire.specs.SessionStates.{listing_feature}
-use Rattle.fetch_wire.specs.Written.{first_too_long, lines_text}
-use Rattle.fetch_wire.specs.declared.lines.line.Line.{Line}
-use Rattle.fetch_wire.specs.declared.replies.reply.ReplyKind.TheVariants as await
-use Rattle.fetch_wire.specs.declared.replies.reply.ReplyError.TheVariants.{Short, TooLong}
-use Rattle.fetch_wire.specs.declared.replies.reply.ParsedReply.{ParsedReply}
-use Rattle.fetch_wire.specs.declared.replies.reply.ParsedReply.TheVariants as told
+use Rattle.fetch_lines.specs.Written.{first_too_long, lines_text}
+use Rattle.fetch_lines.specs.declared.lines.line.Line.{Line}
+use Rattle.fetch_replies.specs.declared.replies.reply.ReplyKind.TheVariants as await
+use Rattle.fetch_replies.specs.declared.replies.reply.ReplyError.TheVariants.{Short, TooLong}
+use Rattle.fetch_replies.specs.declared.replies.reply.ParsedReply.{ParsedReply}
+use Rattle.fetch_replies.specs.declared.replies.reply.ParsedReply.TheVariants as told
 use Rattle.fetch_conversation.specs.Conversation.{Conversation, ends, asks, asks_unless}
 use Rattle.fetch_conversation.specs.ListStage.{LsRefsValue, ListedValue, failed, greeted, ls_refs_stage, listed, listing, mapped, prefixes_asked, too_long, unless, unlisted}
 use Rattle.fetch_conversation.specs.declared.prepare.Error.{Error}

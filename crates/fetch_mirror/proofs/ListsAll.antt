@@ -2,7 +2,7 @@
 use Rattle.std.proofs.Common.{◌≡◌, ℕ, ◌<◌, Bool, true, false, ◌||◌, List, [], length, map, Err, refl, sym, ◌∙◌, subst, ⊎_elim, arith, sum_by}
 use Rattle.std.proofs.lemmas.Option.{slice_get_within}
 use Rattle.fetch_refs.specs.declared.log.Signature.{Signature}
-use Rattle.fetch_wire.specs.Lines.{line_len}
+use Rattle.fetch_lines.specs.Lines.{line_len}
 use Rattle.fetch_conversation.specs.declared.prepare.Error.{Error as PrepareError}
 use Rattle.fetch_conversation.specs.declared.prepare.Error.TheVariants as prepare
 use Rattle.fetch_conversation.specs.declared.ref_map.Error.{Error as ListError}

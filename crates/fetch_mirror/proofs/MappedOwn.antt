@@ -13,14 +13,14 @@ use Rattle.fetch_specs.specs.Matches.{leading, mappings_of}
 use Rattle.fetch_specs.specs.Specs.{Spec}
 use Rattle.fetch_specs.specs.declared.conflict.Conflict.{Conflict}
 use Rattle.fetch_specs.specs.declared.found.Match.{Match}
-use Rattle.fetch_wire.specs.References.{name_in}
-use Rattle.fetch_wire.specs.declared.greetings.handshake.Handshake.{Handshake}
-use Rattle.fetch_wire.specs.declared.listings.mapping.Mapping.{Mapping}
-use Rattle.fetch_wire.specs.declared.listings.mapping.RefMap.{RefMap}
-use Rattle.fetch_wire.specs.declared.listings.mapping.SpecIndex.TheVariants.{ExplicitInRemote, Implicit}
-use Rattle.fetch_wire.specs.declared.listings.reference.Ref.{Ref}
-use Rattle.fetch_wire.specs.declared.listings.reference.Source.{Source}
-use Rattle.fetch_wire.specs.declared.listings.reference.Source.TheVariants as sources
+use Rattle.fetch_lines.specs.References.{name_in}
+use Rattle.fetch_lines.specs.declared.greetings.handshake.Handshake.{Handshake}
+use Rattle.fetch_lines.specs.declared.listings.mapping.Mapping.{Mapping}
+use Rattle.fetch_lines.specs.declared.listings.mapping.RefMap.{RefMap}
+use Rattle.fetch_lines.specs.declared.listings.mapping.SpecIndex.TheVariants.{ExplicitInRemote, Implicit}
+use Rattle.fetch_lines.specs.declared.listings.reference.Ref.{Ref}
+use Rattle.fetch_lines.specs.declared.listings.reference.Source.{Source}
+use Rattle.fetch_lines.specs.declared.listings.reference.Source.TheVariants as sources
 use Rattle.fetch_conversation.specs.ListStage.{LsRefsValue, ListedValue, all_specs, map_of, mapped, mapped_unless}
 use Rattle.fetch_conversation.specs.Mapped.{index_among, mapping_by, ref_mappings}
 use Rattle.fetch_serve.proofs.Lists.{from_one}

@@ -7,10 +7,10 @@ use Rattle.std.proofs.lemmas.Bool.Decides.{Decides-eqb}
 use Rattle.std.proofs.lemmas.Slice.Eq.{starts_is}
 use Rattle.fetch_specs.specs.Categories.{refs}
 use Rattle.fetch_specs.specs.Names.{is_full_name}
-use Rattle.fetch_wire.specs.NamesTold.{AreNamedOnce}
-use Rattle.fetch_wire.specs.References.{id_in, name_in}
-use Rattle.fetch_wire.specs.declared.listings.mapping.RefMap.{RefMap}
-use Rattle.fetch_wire.specs.declared.listings.reference.Ref.{Ref}
+use Rattle.fetch_replies.specs.NamesTold.{AreNamedOnce}
+use Rattle.fetch_lines.specs.References.{id_in, name_in}
+use Rattle.fetch_lines.specs.declared.listings.mapping.RefMap.{RefMap}
+use Rattle.fetch_lines.specs.declared.listings.reference.Ref.{Ref}
 use Rattle.fetch_mirror.specs.Mirroring.{Asking, HasListed}
 use Rattle.fetch_mirror.specs.Naming.{inquiry_by, is_own, is_own_name, names_of, own_name}
 use Rattle.fetch_mirror.specs.Shares.{AreOwnNames}

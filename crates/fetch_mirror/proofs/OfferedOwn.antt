@@ -13,11 +13,11 @@ use Rattle.fetch_specs.proofs.Covering.{each_asked_for}
 use Rattle.fetch_refs.specs.declared.target.Target.{Target}
 use Rattle.fetch_refs.specs.declared.target.Target.TheVariants.{Object}
 use Rattle.fetch_update.specs.Policy.{value_in, value_of}
-use Rattle.fetch_wire.specs.Listings.{ref_with}
-use Rattle.fetch_wire.specs.References.{id_in, name_in}
-use Rattle.fetch_wire.specs.declared.listings.reference.Ref.{Ref}
-use Rattle.fetch_wire.specs.declared.listings.reference.Ref.TheVariants.{Direct, Symbolic, Peeled, Unborn}
-use Rattle.fetch_wire.specs.declared.listings.reference.Source.TheVariants as sources
+use Rattle.fetch_replies.specs.Listings.{ref_with}
+use Rattle.fetch_lines.specs.References.{id_in, name_in}
+use Rattle.fetch_lines.specs.declared.listings.reference.Ref.{Ref}
+use Rattle.fetch_lines.specs.declared.listings.reference.Ref.TheVariants.{Direct, Symbolic, Peeled, Unborn}
+use Rattle.fetch_lines.specs.declared.listings.reference.Source.TheVariants as sources
 use Rattle.fetch_serve.specs.Offered.{head_name, if_told, is_public, is_under, listed, offer, offered_of, peeled_behind, target_of}
 use Rattle.fetch_serve.specs.Served.{Data, history_of, references_of}
 use Rattle.fetch_serve.proofs.Lists.{from_one}

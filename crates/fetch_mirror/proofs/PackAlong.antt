@@ -4,19 +4,19 @@ use Rattle.std.specs.Option.{option_or}
 use Rattle.std.specs.FinMap as map
 use Rattle.fetch_store.specs.Graph.{Graph}
 use Rattle.fetch_base.specs.declared.id.ObjectId.{ObjectId}
-use Rattle.fetch_wire.specs.Awaited.{start_of, step_of}
-use Rattle.fetch_wire.specs.Lines.{line_len}
-use Rattle.fetch_wire.specs.Requests.{text_line}
-use Rattle.fetch_wire.specs.Stepping.{says}
-use Rattle.fetch_wire.specs.Steps.{error_text}
-use Rattle.fetch_wire.specs.Texts.{is_error}
-use Rattle.fetch_wire.specs.Written.{first_too_long, lines_text, too_long_in}
-use Rattle.fetch_wire.specs.declared.lines.line.Line.{Line}
-use Rattle.fetch_wire.specs.declared.replies.reply.ReplyKind.TheVariants as await
-use Rattle.fetch_wire.specs.declared.replies.reply.ReplyError.TheVariants.{Short, TooLong}
-use Rattle.fetch_wire.specs.declared.replies.reply.ParsedReply.{ParsedReply}
-use Rattle.fetch_wire.specs.declared.replies.reply.ParsedReply.TheVariants as told
-use Rattle.fetch_wire.specs.declared.requests.records.FetchReply.{FetchReply}
+use Rattle.fetch_replies.specs.Awaited.{start_of, step_of}
+use Rattle.fetch_lines.specs.Lines.{line_len}
+use Rattle.fetch_lines.specs.Requests.{text_line}
+use Rattle.fetch_replies.specs.Stepping.{says}
+use Rattle.fetch_replies.specs.Steps.{error_text}
+use Rattle.fetch_lines.specs.Texts.{is_error}
+use Rattle.fetch_lines.specs.Written.{first_too_long, lines_text, too_long_in}
+use Rattle.fetch_lines.specs.declared.lines.line.Line.{Line}
+use Rattle.fetch_replies.specs.declared.replies.reply.ReplyKind.TheVariants as await
+use Rattle.fetch_replies.specs.declared.replies.reply.ReplyError.TheVariants.{Short, TooLong}
+use Rattle.fetch_replies.specs.declared.replies.reply.ParsedReply.{ParsedReply}
+use Rattle.fetch_replies.specs.declared.replies.reply.ParsedReply.TheVariants as told
+use Rattle.fetch_lines.specs.declared.requests.records.FetchReply.{FetchReply}
 use Rattle.fetch_negotiate.specs.Requests.{fetch_request}
 use Rattle.fetch_negotiate.specs.Windows.{window_of}
 use Rattle.fetch_negotiate.specs.declared.algorithm.Algorithm.{Algorithm}

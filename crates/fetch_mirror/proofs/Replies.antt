@@ -1,11 +1,11 @@
 -- No reply has a line of a response end.
 use Rattle.std.proofs.Common.{◌≡◌, refl}
-use Rattle.fetch_wire.specs.Awaited.{step_of}
-use Rattle.fetch_wire.specs.Stepping.{breaks}
-use Rattle.fetch_wire.specs.declared.lines.line.Line.TheVariants.{End}
-use Rattle.fetch_wire.specs.declared.replies.parser.Part.TheVariants as parts
-use Rattle.fetch_wire.specs.declared.replies.parser.ReplyParser.{ReplyParser}
-use Rattle.fetch_wire.specs.declared.replies.parser.ReplyParser.TheVariants as reading
+use Rattle.fetch_replies.specs.Awaited.{step_of}
+use Rattle.fetch_replies.specs.Stepping.{breaks}
+use Rattle.fetch_lines.specs.declared.lines.line.Line.TheVariants.{End}
+use Rattle.fetch_replies.specs.declared.replies.parser.Part.TheVariants as parts
+use Rattle.fetch_replies.specs.declared.replies.parser.ReplyParser.{ReplyParser}
+use Rattle.fetch_replies.specs.declared.replies.parser.ReplyParser.TheVariants as reading
 use Rattle.fetch_mirror.proofs.Written.{HasNoEnd}
 
 ends_break : (r : ReplyParser) → step_of r End ≡ breaks

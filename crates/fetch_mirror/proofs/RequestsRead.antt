@@ -7,18 +7,18 @@ use Rattle.fetch_base.specs.Scan.{after}
 use Rattle.fetch_base.specs.declared.id.Kind.{Kind}
 use Rattle.fetch_base.specs.declared.id.Kind.TheVariants.{Sha1, Sha256}
 use Rattle.fetch_refs.specs.Names.{name_cmp}
-use Rattle.fetch_wire.specs.Greetings.{format_in, handshake_of, is_format}
-use Rattle.fetch_wire.specs.Lines.{line_len}
-use Rattle.fetch_wire.specs.LinesTold.{Tells}
-use Rattle.fetch_wire.specs.RequestWords.{agent_word, format_word, format_is}
-use Rattle.fetch_wire.specs.Requests.{detail_texts, first_line, kind_text, listing_lines, listing_word, prefix_text, sent, text_line}
-use Rattle.fetch_wire.specs.Stepping.{goes, breaks, or_breaks}
-use Rattle.fetch_wire.specs.Texts.{without_lf}
-use Rattle.fetch_wire.specs.Written.{first_too_long, lines_text}
-use Rattle.fetch_wire.specs.declared.lines.line.Line.{Line}
-use Rattle.fetch_wire.specs.declared.lines.line.Line.TheVariants.{Flush, End}
-use Rattle.fetch_wire.specs.declared.replies.reply.ReplyError.TheVariants.{TooLong}
-use Rattle.fetch_wire.proofs.Moving.{Moves, first_tells, lf_last, moves_tell}
+use Rattle.fetch_lines.specs.Greetings.{format_in, handshake_of, is_format}
+use Rattle.fetch_lines.specs.Lines.{line_len}
+use Rattle.fetch_replies.specs.LinesTold.{Tells}
+use Rattle.fetch_lines.specs.RequestWords.{agent_word, format_word, format_is}
+use Rattle.fetch_lines.specs.Requests.{detail_texts, first_line, kind_text, listing_lines, listing_word, prefix_text, sent, text_line}
+use Rattle.fetch_replies.specs.Stepping.{goes, breaks, or_breaks}
+use Rattle.fetch_lines.specs.Texts.{without_lf}
+use Rattle.fetch_lines.specs.Written.{first_too_long, lines_text}
+use Rattle.fetch_lines.specs.declared.lines.line.Line.{Line}
+use Rattle.fetch_lines.specs.declared.lines.line.Line.TheVariants.{Flush, End}
+use Rattle.fetch_replies.specs.declared.replies.reply.ReplyError.TheVariants.{TooLong}
+use Rattle.fetch_replies.proofs.Moving.{Moves, first_tells, lf_last, moves_tell}
 use Rattle.fetch_serve.specs.declared.asked.Asked.{Asked}
 use Rattle.fetch_serve.specs.declared.asked.Asked.TheVariants.{First, Listing}
 use Rattle.fetch_serve.specs.declared.reading.FetchHead.TheVariants as head

@@ -16,9 +16,9 @@ use Rattle.fetch_specs.specs.declared.found.SourceRef.TheVariants as sources
 use Rattle.fetch_specs.proofs.Between.{between_stands}
 use Rattle.fetch_specs.proofs.Doubles.{each_conflict}
 use Rattle.fetch_specs.proofs.Places.{each_mapping}
-use Rattle.fetch_wire.specs.References.{name_in}
-use Rattle.fetch_wire.specs.declared.greetings.handshake.Handshake.{Handshake}
-use Rattle.fetch_wire.specs.declared.listings.reference.Ref.{Ref}
+use Rattle.fetch_lines.specs.References.{name_in}
+use Rattle.fetch_lines.specs.declared.greetings.handshake.Handshake.{Handshake}
+use Rattle.fetch_lines.specs.declared.listings.reference.Ref.{Ref}
 use Rattle.fetch_conversation.specs.ListStage.{LsRefsValue, all_specs, map_of, mapped, mapped_unless}
 use Rattle.fetch_mirror.specs.Naming.{everything, inquiry_by}
 use Rattle.fetch_mirror.specs.Shares.{AreOnce, AreOwnNames, as_itself}

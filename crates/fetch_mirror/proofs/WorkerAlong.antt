@@ -1,6 +1,6 @@
 -- The whole conversation of a fetch, along what a server gives.
 use Rattle.std.proofs.Common.{◌≡◌, ℕ, List, [], ◌++◌, Option, None, Result, Ok, Err, sym, ap, subst}
-use Rattle.fetch_wire.specs.declared.lines.line.Line.{Line}
+use Rattle.fetch_lines.specs.declared.lines.line.Line.{Line}
 use Rattle.fetch_conversation.specs.Conversation.{Conversation, ends, told_as}
 use Rattle.fetch_conversation.specs.ListStage.{ListedValue, ls_refs_stage, list_stage, no_specs, unless}
 use Rattle.fetch_conversation.specs.declared.conversing.Received.{Received}

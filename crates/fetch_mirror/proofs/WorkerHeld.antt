@@ -10,8 +10,8 @@ use Rattle.fetch_refs.specs.declared.log.Signature.{Signature}
 use Rattle.fetch_refs.specs.declared.target.Target.{Target}
 use Rattle.fetch_update.specs.declared.update.Error.{Error as UpdateError}
 use Rattle.fetch_update.specs.declared.update.Outcome.{Outcome as Updates}
-use Rattle.fetch_wire.specs.Talks.{Talk}
-use Rattle.fetch_wire.specs.declared.lines.line.Line.{Line as WireLine}
+use Rattle.fetch_lines.specs.Talks.{Talk}
+use Rattle.fetch_lines.specs.declared.lines.line.Line.{Line as WireLine}
 use Rattle.fetch_conversation.specs.declared.conversing.Received.{Received}
 use Rattle.fetch_conversation.specs.declared.fetch.Error.{Error as ReceiveError}
 use Rattle.fetch_conversation.specs.declared.fetch.Error.TheVariants as receive

@@ -11,9 +11,9 @@ use Rattle.fetch_store.proofs.Graphs.{get-graph_of}
 use Rattle.fetch_specs.specs.Specs.{Spec}
 use Rattle.fetch_refs.specs.declared.log.Signature.{Signature}
 use Rattle.fetch_refs.specs.declared.target.Target.TheVariants.{Object}
-use Rattle.fetch_wire.specs.declared.lines.line.Line.{Line as WireLine}
-use Rattle.fetch_wire.specs.declared.listings.mapping.Mapping.{Mapping}
-use Rattle.fetch_wire.specs.declared.listings.mapping.RefMap.{RefMap}
+use Rattle.fetch_lines.specs.declared.lines.line.Line.{Line as WireLine}
+use Rattle.fetch_lines.specs.declared.listings.mapping.Mapping.{Mapping}
+use Rattle.fetch_lines.specs.declared.listings.mapping.RefMap.{RefMap}
 use Rattle.fetch_update.specs.Outcomes.{outcome_of}
 use Rattle.fetch_update.specs.Policy.{Policy, is_stored, value_of}
 use Rattle.fetch_update.specs.declared.update.Outcome.{Outcome as Updates}

@@ -23,23 +23,23 @@ use Rattle.fetch_refs.specs.declared.log.Signature.{Signature}
 use Rattle.fetch_refs.specs.declared.target.Target.{Target}
 use Rattle.fetch_refs.specs.declared.target.Target.TheVariants.{Object}
 use Rattle.fetch_update.specs.Policy.{value_of}
-use Rattle.fetch_wire.specs.Awaited.{start_of, step_of}
-use Rattle.fetch_wire.specs.LinesTold.{Tells}
-use Rattle.fetch_wire.specs.Lines.{line_len}
+use Rattle.fetch_replies.specs.Awaited.{start_of, step_of}
+use Rattle.fetch_replies.specs.LinesTold.{Tells}
+use Rattle.fetch_lines.specs.Lines.{line_len}
 use Rattle.fetch_wire.specs.Parameters.{first_bad, texts_told}
-use Rattle.fetch_wire.specs.References.{id_in, name_in, peeled_in, source_id}
-use Rattle.fetch_wire.specs.Requests.{listing_lines}
-use Rattle.fetch_wire.specs.ServerLines.{IsIdOf, bands_of, last_lines}
-use Rattle.fetch_wire.specs.Written.{first_too_long}
-use Rattle.fetch_wire.specs.declared.error.WireError.TheVariants as wire
-use Rattle.fetch_wire.specs.declared.greetings.handshake.Handshake.{Handshake}
-use Rattle.fetch_wire.specs.declared.lines.line.Line.{Line}
-use Rattle.fetch_wire.specs.declared.listings.mapping.Mapping.{Mapping}
-use Rattle.fetch_wire.specs.declared.listings.mapping.SpecIndex.TheVariants.{ExplicitInRemote}
-use Rattle.fetch_wire.specs.declared.listings.reference.Ref.{Ref}
-use Rattle.fetch_wire.specs.declared.replies.reply.ReplyKind.TheVariants as await
-use Rattle.fetch_wire.specs.declared.replies.reply.ReplyError.TheVariants.{Short}
-use Rattle.fetch_wire.specs.declared.replies.reply.ParsedReply.TheVariants as telling
+use Rattle.fetch_lines.specs.References.{id_in, name_in, peeled_in, source_id}
+use Rattle.fetch_lines.specs.Requests.{listing_lines}
+use Rattle.fetch_lines.specs.ServerLines.{IsIdOf, bands_of, last_lines}
+use Rattle.fetch_lines.specs.Written.{first_too_long}
+use Rattle.fetch_lines.specs.declared.error.WireError.TheVariants as wire
+use Rattle.fetch_lines.specs.declared.greetings.handshake.Handshake.{Handshake}
+use Rattle.fetch_lines.specs.declared.lines.line.Line.{Line}
+use Rattle.fetch_lines.specs.declared.listings.mapping.Mapping.{Mapping}
+use Rattle.fetch_lines.specs.declared.listings.mapping.SpecIndex.TheVariants.{ExplicitInRemote}
+use Rattle.fetch_lines.specs.declared.listings.reference.Ref.{Ref}
+use Rattle.fetch_replies.specs.declared.replies.reply.ReplyKind.TheVariants as await
+use Rattle.fetch_replies.specs.declared.replies.reply.ReplyError.TheVariants.{Short}
+use Rattle.fetch_replies.specs.declared.replies.reply.ParsedReply.TheVariants as telling
 use Rattle.fetch_negotiate.specs.Requests.{fetch_request}
 use Rattle.fetch_conversation.specs.ConverseStage.{is_no_change, is_rejecting, first_outside, read_of, received, result_unless, unpacked, with_pack}
 use Rattle.fetch_conversation.specs.Exchange.{FetchArgumentsValue, asked_by, failed as unreceived_by, reply_to, too_long as unsendable_by}

@@ -2,9 +2,9 @@
 use Rattle.std.proofs.Common.{◌≡◌, ℕ, Bool, true, false, List, [], Some, Err, refl, sym, ◌∙◌, subst}
 use Rattle.std.specs.FinSet as set
 use Rattle.fetch_refs.specs.declared.log.Signature.{Signature}
-use Rattle.fetch_wire.specs.Talks.{IsFront, Talk}
-use Rattle.fetch_wire.specs.Written.{lines_text}
-use Rattle.fetch_wire.specs.declared.lines.line.Line.{Line}
+use Rattle.fetch_lines.specs.Talks.{IsFront, Talk}
+use Rattle.fetch_lines.specs.Written.{lines_text}
+use Rattle.fetch_lines.specs.declared.lines.line.Line.{Line}
 use Rattle.fetch_conversation.specs.Conversation.{Breaks}
 use Rattle.fetch_conversation.specs.Served.{Follows}
 use Rattle.fetch_remote.specs.Errors.{is_free, is_yes}

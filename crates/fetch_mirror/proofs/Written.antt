@@ -3,19 +3,19 @@ use Rattle.std.proofs.Common.{◌≡◌, ◌≢◌, ℕ, ◌+◌, ◌<◌, ◌�
 use Rattle.std.specs.Option.{option_or}
 use Rattle.std.proofs.lemmas.Bool.{cases_lt}
 use Rattle.std.proofs.lemmas.List.Sums.{sum_by-cons}
-use Rattle.fetch_wire.specs.declared.lines.line.Line.{Line}
-use Rattle.fetch_wire.specs.declared.lines.line.Line.TheVariants.{Payload, Flush, Delim, End}
-use Rattle.fetch_wire.specs.declared.replies.reply.ReplyError.{ReplyError}
-use Rattle.fetch_wire.specs.declared.replies.reply.ReplyError.TheVariants.{Said, Short, TooLong}
-use Rattle.fetch_wire.specs.Bounds.{Moves, PassesBound, IsTooLong}
-use Rattle.fetch_wire.specs.Lines.{line_len}
-use Rattle.fetch_wire.specs.LineLaws.{IsLine}
-use Rattle.fetch_wire.specs.LinesTold.{Writes, Tells, lines_tell}
-use Rattle.fetch_wire.specs.StepLaws.{line_then, read_by-step}
-use Rattle.fetch_wire.specs.Stepping.{Step, goes, ends, breaks, says, after_line, after_step, read_by}
-use Rattle.fetch_wire.specs.Written.{count_of, payload_of, line_text, lines_text, too_long_in, first_too_long}
-use Rattle.fetch_wire.specs.WrittenLaws.{is-line_at, written-is}
-use Rattle.fetch_wire.proofs.ReadBack.{too_long}
+use Rattle.fetch_lines.specs.declared.lines.line.Line.{Line}
+use Rattle.fetch_lines.specs.declared.lines.line.Line.TheVariants.{Payload, Flush, Delim, End}
+use Rattle.fetch_replies.specs.declared.replies.reply.ReplyError.{ReplyError}
+use Rattle.fetch_replies.specs.declared.replies.reply.ReplyError.TheVariants.{Said, Short, TooLong}
+use Rattle.fetch_replies.specs.Bounds.{Moves, PassesBound, IsTooLong}
+use Rattle.fetch_lines.specs.Lines.{line_len}
+use Rattle.fetch_lines.specs.LineLaws.{IsLine}
+use Rattle.fetch_replies.specs.LinesTold.{Writes, Tells, lines_tell}
+use Rattle.fetch_replies.specs.StepLaws.{line_then, read_by-step}
+use Rattle.fetch_replies.specs.Stepping.{Step, goes, ends, breaks, says, after_line, after_step, read_by}
+use Rattle.fetch_lines.specs.Written.{count_of, payload_of, line_text, lines_text, too_long_in, first_too_long}
+use Rattle.fetch_lines.specs.WrittenLaws.{is-line_at, written-is}
+use Rattle.fetch_replies.proofs.ReadBack.{too_long}
 
 -- No line of a response end is read.
 pub record HasNoEnd {S T : Type 0} (step : S → Line → Step S T) : Type 0 where

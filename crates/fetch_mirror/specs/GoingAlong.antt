@@ -1,14 +1,14 @@
 -- Both at once: each reply on the path is read along it, and this is the answer.
 use Rattle.std.specs.Prelude.{◌≡◌, ◌⊎◌, ◌≢◌, ℕ, List, [], ◌++◌, Result, Ok, Err, ⊤}
 use Rattle.fetch_mirror.specs.Along.{added, answer_along, sent_along, IsAlong}
-use Rattle.fetch_wire.specs.Awaited.{told_at}
-use Rattle.fetch_wire.specs.declared.replies.reply.ParsedReply.{ParsedReply}
+use Rattle.fetch_replies.specs.Awaited.{told_at}
+use Rattle.fetch_replies.specs.declared.replies.reply.ParsedReply.{ParsedReply}
 use Rattle.fetch_conversation.specs.Conversation.{Conversation, ends, asks}
-use Rattle.fetch_wire.specs.Written.{lines_text}
-use Rattle.fetch_wire.specs.declared.lines.line.Line.{Line}
+use Rattle.fetch_lines.specs.Written.{lines_text}
+use Rattle.fetch_lines.specs.declared.lines.line.Line.{Line}
 use Rattle.fetch_conversation.specs.Served.{IsOver}
-use Rattle.fetch_wire.specs.declared.replies.reply.ReplyError.{ReplyError}
-use Rattle.fetch_wire.specs.declared.replies.reply.ReplyError.TheVariants.{Short}
+use Rattle.fetch_replies.specs.declared.replies.reply.ReplyError.{ReplyError}
+use Rattle.fetch_replies.specs.declared.replies.reply.ReplyError.TheVariants.{Short}
 
 -- The conversation goes along the rule's replies, with these lines sent, to this answer.
 pub record GoesAlong {X E : Type 0} (bound : ℕ) (rule : List ℕ → List ℕ) (before : List ℕ) (c : Conversation X E) (sent : List Line)

@@ -9,10 +9,10 @@ use Rattle.fetch_specs.specs.Prefixes.{prefixes_of}
 use Rattle.fetch_specs.specs.declared.tags.Tags.TheVariants as tags
 use Rattle.fetch_pack.specs.declared.version.PackVersion.TheVariants.{V2}
 use Rattle.fetch_refs.specs.declared.log.Signature.{Signature}
-use Rattle.fetch_wire.specs.Lines.{line_len}
-use Rattle.fetch_wire.specs.Requests.{listing_lines}
-use Rattle.fetch_wire.specs.declared.error.WireError.TheVariants.{ReplyTooLong}
-use Rattle.fetch_wire.specs.declared.lines.line.Line.{Line}
+use Rattle.fetch_lines.specs.Lines.{line_len}
+use Rattle.fetch_lines.specs.Requests.{listing_lines}
+use Rattle.fetch_lines.specs.declared.error.WireError.TheVariants.{ReplyTooLong}
+use Rattle.fetch_lines.specs.declared.lines.line.Line.{Line}
 use Rattle.fetch_negotiate.specs.Requests.{fetch_request}
 use Rattle.fetch_negotiate.specs.declared.algorithm.Shallow.TheVariants.{NoChange}
 use Rattle.fetch_conversation.specs.declared.ref_map.Error.{Error as ListError}

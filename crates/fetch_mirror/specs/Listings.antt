@@ -3,16 +3,16 @@ use Rattle.std.specs.Prelude.{◌≡◌, ℕ, ◌≤◌, ⊤, true, List, [], �
 use Rattle.std.specs.Ordering.{is_lt}
 use Rattle.fetch_base.specs.declared.id.Kind.{Kind}
 use Rattle.fetch_refs.specs.Names.{name_cmp}
-use Rattle.fetch_wire.specs.Awaited.{step_of, start_of}
-use Rattle.fetch_wire.specs.Greetings.{handshake_of}
-use Rattle.fetch_wire.specs.Lines.{line_len}
-use Rattle.fetch_wire.specs.LinesTold.{Tells}
-use Rattle.fetch_wire.specs.Requests.{first_line, listing_lines}
-use Rattle.fetch_wire.specs.Written.{first_too_long}
-use Rattle.fetch_wire.specs.declared.greetings.handshake.Handshake.{Handshake}
-use Rattle.fetch_wire.specs.declared.lines.line.Line.{Line}
-use Rattle.fetch_wire.specs.declared.replies.reply.ReplyKind.TheVariants as await
-use Rattle.fetch_wire.specs.declared.replies.reply.ParsedReply.TheVariants as told
+use Rattle.fetch_replies.specs.Awaited.{step_of, start_of}
+use Rattle.fetch_lines.specs.Greetings.{handshake_of}
+use Rattle.fetch_lines.specs.Lines.{line_len}
+use Rattle.fetch_replies.specs.LinesTold.{Tells}
+use Rattle.fetch_lines.specs.Requests.{first_line, listing_lines}
+use Rattle.fetch_lines.specs.Written.{first_too_long}
+use Rattle.fetch_lines.specs.declared.greetings.handshake.Handshake.{Handshake}
+use Rattle.fetch_lines.specs.declared.lines.line.Line.{Line}
+use Rattle.fetch_replies.specs.declared.replies.reply.ReplyKind.TheVariants as await
+use Rattle.fetch_replies.specs.declared.replies.reply.ParsedReply.TheVariants as told
 use Rattle.fetch_conversation.specs.ListStage.{LsRefsValue, prefixes_asked, unsendable}
 use Rattle.fetch_serve.specs.declared.asked.Asked.TheVariants.{First, Listing}
 use Rattle.fetch_serve.specs.Offered.{capabilities_of, offered_of}

@@ -10,7 +10,7 @@ use Rattle.fetch_refs.specs.declared.target.Target.{Target}
 use Rattle.fetch_specs.specs.Specs.{Spec}
 use Rattle.fetch_specs.specs.declared.tags.Tags.TheVariants as tags
 use Rattle.fetch_negotiate.specs.declared.algorithm.Shallow.TheVariants.{NoChange}
-use Rattle.fetch_wire.specs.Talks.{Talk}
+use Rattle.fetch_lines.specs.Talks.{Talk}
 use Rattle.fetch_conversation.specs.Blame.{BlamesPeer}
 use Rattle.fetch_conversation.specs.Conversation.{Breaks, Concludes}
 use Rattle.fetch_conversation.specs.Errors.{is_free_listing, is_interrupted, is_transport}

@@ -5,8 +5,8 @@ use Rattle.fetch_specs.specs.Categories.{refs}
 use Rattle.fetch_specs.specs.Names.{is_full_name}
 use Rattle.fetch_specs.specs.Specs.{Spec}
 use Rattle.fetch_specs.specs.declared.tags.Tags.TheVariants as tags
-use Rattle.fetch_wire.specs.References.{id_in, name_in}
-use Rattle.fetch_wire.specs.declared.listings.reference.Ref.{Ref}
+use Rattle.fetch_lines.specs.References.{id_in, name_in}
+use Rattle.fetch_lines.specs.declared.listings.reference.Ref.{Ref}
 use Rattle.fetch_conversation.specs.ListStage.{LsRefsValue}
 use Rattle.fetch_conversation.specs.declared.ref_map.Options.{Options}
 use Rattle.fetch_mirror.specs.Shares.{as_itself}

@@ -1,6 +1,6 @@
 -- The conversation of a worker of a mirror with its server.
 use Rattle.std.specs.Prelude.{◌≡◌, ◌≤◌, true, None, Ok, sum_by}
-use Rattle.fetch_wire.specs.Lines.{line_len}
+use Rattle.fetch_lines.specs.Lines.{line_len}
 use Rattle.fetch_conversation.specs.ListStage.{ListedValue, mapped, no_specs, prefixes_asked}
 use Rattle.fetch_remote.specs.Form.{Given}
 use Rattle.fetch_remote.specs.Stages.{bound_of, inquiry_in}

@@ -1,7 +1,7 @@
 //! The names that a server lists.
 
 ghost use Rattle.std.specs.Prelude.{◌≡◌, ◌≢◌, ◌∷◌, ◌++◌, [], false, is_some, IfOk, IfErr, OnOk};
-ghost use Rattle.fetch_wire.specs.References.{id_in};
+ghost use Rattle.fetch_lines.specs.References.{id_in};
 ghost use Rattle.std.specs.List.{filter_map};
 ghost use Rattle.fetch_conversation.specs.Blame.{BlamesPeer, is_told};
 ghost use Rattle.fetch_conversation.specs.Errors.{is_free_listing, is_interrupted, is_transport};

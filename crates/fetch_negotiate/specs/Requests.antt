@@ -7,16 +7,16 @@ use Rattle.fetch_store.specs.Borders.{ids_of}
 use Rattle.fetch_base.specs.Id.{id_cmp}
 use Rattle.fetch_specs.specs.declared.tags.Tags.{Tags}
 use Rattle.fetch_specs.specs.declared.tags.Tags.TheVariants as tags
-use Rattle.fetch_wire.specs.declared.greetings.handshake.Handshake.{Handshake}
-use Rattle.fetch_wire.specs.declared.lines.line.Line.{Line}
-use Rattle.fetch_wire.specs.declared.lines.line.Line.TheVariants.{Flush, Delim}
+use Rattle.fetch_lines.specs.declared.greetings.handshake.Handshake.{Handshake}
+use Rattle.fetch_lines.specs.declared.lines.line.Line.{Line}
+use Rattle.fetch_lines.specs.declared.lines.line.Line.TheVariants.{Flush, Delim}
 use Rattle.fetch_negotiate.specs.declared.algorithm.Shallow.{Shallow}
 use Rattle.fetch_negotiate.specs.declared.algorithm.Shallow.TheVariants.{NoChange, DepthAtRemote, Deepen, Since, Exclude}
-use Rattle.fetch_wire.specs.Greetings.{has_word, value_of}
-use Rattle.fetch_wire.specs.RequestWords.{command_word, plain_pack, plain_pack_2, include_tag, shallow_word, deepen_word, relative_word}
-use Rattle.fetch_wire.specs.RequestWords.{since_word, not_word, want_word, have_word, done_word}
-use Rattle.fetch_wire.specs.Requests.{head_texts, sent, when}
-use Rattle.fetch_wire.specs.RequestLines.{id_lines}
+use Rattle.fetch_lines.specs.Greetings.{has_word, value_of}
+use Rattle.fetch_lines.specs.RequestWords.{command_word, plain_pack, plain_pack_2, include_tag, shallow_word, deepen_word, relative_word}
+use Rattle.fetch_lines.specs.RequestWords.{since_word, not_word, want_word, have_word, done_word}
+use Rattle.fetch_lines.specs.Requests.{head_texts, sent, when}
+use Rattle.fetch_lines.specs.RequestLines.{id_lines}
 
 -- what a fetch request is made of, but for its haves
 pub record Asked : Type 0 where

@@ -3,19 +3,19 @@
 ghost use Rattle.std.specs.Prelude.{◌≡◌, [], ◌∷◌, ◌++◌, IfOk, IfErr, OnOk, map, decimal, if◌then◌else◌};
 ghost use Rattle.std.specs.Option.{option_map_or};
 ghost use Rattle.fetch_specs.specs.declared.tags.Tags.{Tags};
-ghost use Rattle.fetch_wire.specs.declared.error.WireError.TheVariants as errors;
+ghost use Rattle.fetch_lines.specs.declared.error.WireError.TheVariants as errors;
 ghost use Rattle.fetch_negotiate.specs.Lists.{firsts};
 ghost use Rattle.fetch_negotiate.specs.Requests as spec;
 ghost use Rattle.hex.specs.Hex.{encode_lower};
 ghost use Rattle.fetch_base.specs.Id.{bytes_of};
-ghost use Rattle.fetch_wire.specs.RequestWords.{not_word, deepen_word, relative_word};
-ghost use Rattle.fetch_wire.specs.RequestLines.{id_lines};
+ghost use Rattle.fetch_lines.specs.RequestWords.{not_word, deepen_word, relative_word};
+ghost use Rattle.fetch_lines.specs.RequestLines.{id_lines};
 
 use crate::algorithm::Shallow;
 use crate::once::each_once;
+use fetch_lines::{Handshake, Request, WireError, append_head, append_when, joined};
 use fetch_specs::{PartialName, Tags};
 use fetch_store::{Border, Kind, List, NoMemory, ObjectId, Text};
-use fetch_wire::{Handshake, Request, WireError, append_head, append_when, joined};
 use std::alloc::Global;
 
 /// The request of one round: what is asked, the haves acknowledged so far in the order in which they first were, and
@@ -59,7 +59,7 @@ pub fn request_of(
     })
 }
 
-#[tactic(auto, unfolding(fetch_wire::specs::RequestWords::command_word))]
+#[tactic(auto, unfolding(fetch_lines::specs::RequestWords::command_word))]
 fn push_head(
     alloc: Global,
     lines: &mut Vec<Text>,
@@ -74,7 +74,7 @@ fn push_head(
 }
 
 /// The word that asks for a plain pack, of version 2 where the server offers that.
-#[tactic(auto, unfolding(crate::specs::Requests::pack_word, fetch_wire::specs::RequestWords::plain_pack, fetch_wire::specs::RequestWords::plain_pack_2))]
+#[tactic(auto, unfolding(crate::specs::Requests::pack_word, fetch_lines::specs::RequestWords::plain_pack, fetch_lines::specs::RequestWords::plain_pack_2))]
 fn pack_word(handshake: &Handshake) -> &'static [u8]
     ensures { result.now ≡ spec.pack_word handshake.now }
 {
@@ -85,7 +85,7 @@ fn pack_word(handshake: &Handshake) -> &'static [u8]
     }
 }
 
-#[tactic(auto, unfolding(fetch_wire::specs::RequestWords::include_tag, fetch_wire::specs::RequestWords::shallow_word, fetch_wire::specs::RequestWords::want_word))]
+#[tactic(auto, unfolding(fetch_lines::specs::RequestWords::include_tag, fetch_lines::specs::RequestWords::shallow_word, fetch_lines::specs::RequestWords::want_word))]
 fn push_details(
     alloc: Global,
     lines: &mut Vec<Text>,
@@ -112,7 +112,7 @@ pub(crate) fn is_included(tags: Tags) -> bool
     }
 }
 
-#[tactic(auto, unfolding(fetch_wire::specs::RequestWords::deepen_word, fetch_wire::specs::RequestWords::since_word))]
+#[tactic(auto, unfolding(fetch_lines::specs::RequestWords::deepen_word, fetch_lines::specs::RequestWords::since_word))]
 fn push_depth(alloc: Global, lines: &mut Vec<Text>, shallow: &Shallow) -> Result<(), NoMemory>
     ensures { OnOk result (lines.new.items ≡ lines.old.items ++ spec.depth_lines shallow.now) }
 {
@@ -133,7 +133,7 @@ fn push_depth(alloc: Global, lines: &mut Vec<Text>, shallow: &Shallow) -> Result
     }
 }
 
-#[tactic(auto, unfolding(fetch_wire::specs::RequestWords::deepen_word, fetch_wire::specs::RequestWords::relative_word))]
+#[tactic(auto, unfolding(fetch_lines::specs::RequestWords::deepen_word, fetch_lines::specs::RequestWords::relative_word))]
 fn push_relative(alloc: Global, lines: &mut Vec<Text>, depth: u32) -> Result<(), NoMemory>
     ensures { OnOk result (lines.new.items ≡ lines.old.items ++ (deepen_word ++ decimal depth) ∷ relative_word ∷ []) }
 {
@@ -141,7 +141,7 @@ fn push_relative(alloc: Global, lines: &mut Vec<Text>, depth: u32) -> Result<(),
     push_word(alloc, lines, b"deepen-relative")
 }
 
-#[tactic(auto, unfolding(fetch_wire::specs::RequestWords::since_word))]
+#[tactic(auto, unfolding(fetch_lines::specs::RequestWords::since_word))]
 fn push_since(alloc: Global, lines: &mut Vec<Text>, cutoff: Option<u64>) -> Result<(), NoMemory>
     ensures { OnOk result (lines.new.items ≡ lines.old.items ++ spec.since_lines cutoff) }
 {
@@ -151,7 +151,7 @@ fn push_since(alloc: Global, lines: &mut Vec<Text>, cutoff: Option<u64>) -> Resu
     }
 }
 
-#[tactic(auto, unfolding(fetch_wire::specs::RequestWords::not_word))]
+#[tactic(auto, unfolding(fetch_lines::specs::RequestWords::not_word))]
 fn push_names(alloc: Global, lines: &mut Vec<Text>, names: &[PartialName]) -> Result<(), NoMemory>
     ensures { OnOk result (lines.new.items ≡ lines.old.items ++ map (λ name. not_word ++ name) names.now) }
 {

@@ -11,9 +11,9 @@ ghost use Rattle.fetch_negotiate.specs.Wants.{wants_of};
 use crate::algorithm::Shallow;
 use crate::once::each_once;
 use crate::request::is_included;
+use fetch_lines::{Mapping, RefMap, SpecIndex};
 use fetch_specs::{RefSpec, Tags};
 use fetch_store::{NoMemory, ObjectId, Objects};
-use fetch_wire::{Mapping, RefMap, SpecIndex};
 use std::alloc::Global;
 
 /// The ids that the mappings ask for, in their order and each once. The implicit tags are left out, and without a

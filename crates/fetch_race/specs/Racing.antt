@@ -4,7 +4,7 @@ use Rattle.std.specs.FinMap as map
 use Rattle.fetch_base.specs.Faults.{Faults}
 use Rattle.fetch_files.specs.Trees.{Tree}
 use Rattle.fetch_update.specs.declared.worktrees.Worktree.{Worktree}
-use Rattle.fetch_wire.specs.Talks.{Talk}
+use Rattle.fetch_lines.specs.Talks.{Talk}
 use Rattle.fetch_conversation.specs.Blame.{BlamesPeer, is_told}
 use Rattle.fetch_remote.specs.Errors.{is_unkept, is_unlisted}
 use Rattle.fetch_remote.specs.RepositoryValues.{RepositoryValue}

@@ -8,14 +8,14 @@ use Rattle.hex.specs.Hex.{encode_lower}
 use Rattle.fetch_store.specs.Borders.{ids_of}
 use Rattle.fetch_base.specs.Id.{bytes_of}
 use Rattle.fetch_base.specs.declared.id.ObjectId.{ObjectId}
-use Rattle.fetch_wire.specs.Greetings.{has_word, offers, value_of}
-use Rattle.fetch_wire.specs.KnownIds.{each_once}
-use Rattle.fetch_wire.specs.RequestLines.{id_lines}
-use Rattle.fetch_wire.specs.RequestWords.{command_word, agent_word, agent_is, format_is, plain_pack, plain_pack_2, include_tag, shallow_word, deepen_word, relative_word, since_word, not_word, want_word, have_word, done_word}
-use Rattle.fetch_wire.specs.Requests.{text_line, agent_text, sent, when, kind_text}
-use Rattle.fetch_wire.specs.declared.greetings.handshake.Handshake.{Handshake}
-use Rattle.fetch_wire.specs.declared.lines.line.Line.{Line}
-use Rattle.fetch_wire.specs.declared.lines.line.Line.TheVariants.{Flush, Delim}
+use Rattle.fetch_lines.specs.Greetings.{has_word, offers, value_of}
+use Rattle.fetch_lines.specs.KnownIds.{each_once}
+use Rattle.fetch_lines.specs.RequestLines.{id_lines}
+use Rattle.fetch_lines.specs.RequestWords.{command_word, agent_word, agent_is, format_is, plain_pack, plain_pack_2, include_tag, shallow_word, deepen_word, relative_word, since_word, not_word, want_word, have_word, done_word}
+use Rattle.fetch_lines.specs.Requests.{text_line, agent_text, sent, when, kind_text}
+use Rattle.fetch_lines.specs.declared.greetings.handshake.Handshake.{Handshake}
+use Rattle.fetch_lines.specs.declared.lines.line.Line.{Line}
+use Rattle.fetch_lines.specs.declared.lines.line.Line.TheVariants.{Flush, Delim}
 use Rattle.fetch_negotiate.specs.Requests.{Asked, asked_of, depth_lines, details_of, fetch_request, head_of, is_included, pack_word, since_lines}
 use Rattle.fetch_negotiate.specs.declared.algorithm.Round.{Round}
 use Rattle.fetch_negotiate.specs.declared.algorithm.Shallow.{Shallow}

@@ -1,9 +1,9 @@
 -- A conversation that broke off, stage by stage.
 use Rattle.std.proofs.Common.{◌≡◌, ℕ, Bool, true, false, List, [], ◌++◌, Option, Result, Ok, refl, sym, ap, ◌∙◌, append_assoc}
 use Rattle.std.proofs.lemmas.List.Concat.{flat_map-append}
-use Rattle.fetch_wire.specs.Talks.{Talk, IsFront}
-use Rattle.fetch_wire.specs.Written.{line_text, lines_text}
-use Rattle.fetch_wire.specs.declared.lines.line.Line.{Line}
+use Rattle.fetch_lines.specs.Talks.{Talk, IsFront}
+use Rattle.fetch_lines.specs.Written.{line_text, lines_text}
+use Rattle.fetch_lines.specs.declared.lines.line.Line.{Line}
 use Rattle.fetch_conversation.specs.Conversation.{Conversation, ends, sent_in, answer_in, and_then, map_refusal, told_as, Concludes, Breaks}
 use Rattle.fetch_conversation.specs.Errors.{is_free_listing, is_free_map, is_free_receiving, is_interrupted, is_stopped}
 use Rattle.fetch_conversation.specs.ListStage.{ListedValue}

@@ -6,9 +6,9 @@ use Rattle.fetch_store.specs.Graph.{graph_of}
 use Rattle.fetch_base.specs.declared.id.ObjectId.{ObjectId}
 use Rattle.fetch_refs.specs.declared.edit.PackedRefs.{PackedRefs}
 use Rattle.fetch_refs.specs.declared.edit.RefEdit.{RefEdit}
-use Rattle.fetch_wire.specs.declared.listings.mapping.RefMap.{RefMap}
-use Rattle.fetch_wire.specs.Talks.{Talk}
-use Rattle.fetch_wire.specs.Written.{lines_text}
+use Rattle.fetch_lines.specs.declared.listings.mapping.RefMap.{RefMap}
+use Rattle.fetch_lines.specs.Talks.{Talk}
+use Rattle.fetch_lines.specs.Written.{lines_text}
 use Rattle.fetch_update.specs.declared.update.Outcome.{Outcome as Updates}
 use Rattle.fetch_update.specs.declared.worktrees.Worktree.{Worktree}
 use Rattle.fetch_update.proofs.Wholes.{one_each, accepts_exactly, guesses_exactly, rejects_exactly, edits_carry_out, edits_say, tells_type_changes}

@@ -33,17 +33,17 @@ use Rattle.fetch_refs.specs.declared.target.Target.TheVariants as targets
 use Rattle.fetch_refs.proofs.LastEdits.{last_edit}
 use Rattle.fetch_negotiate.specs.Requests.{is_included}
 use Rattle.fetch_negotiate.specs.Wants.{is_tag_index}
-use Rattle.fetch_wire.specs.Mappings.{spec_at}
-use Rattle.fetch_wire.specs.References.{source_id}
-use Rattle.fetch_wire.specs.Talks.{Talk}
-use Rattle.fetch_wire.specs.declared.listings.mapping.Mapping.{Mapping}
-use Rattle.fetch_wire.specs.declared.listings.mapping.RefMap.{RefMap}
-use Rattle.fetch_wire.specs.declared.listings.mapping.SpecIndex.{SpecIndex}
-use Rattle.fetch_wire.specs.declared.listings.mapping.SpecIndex.TheVariants as indices
-use Rattle.fetch_wire.specs.declared.listings.reference.Ref.{Ref}
-use Rattle.fetch_wire.specs.declared.listings.reference.Ref.TheVariants as remote
-use Rattle.fetch_wire.specs.declared.listings.reference.Source.{Source}
-use Rattle.fetch_wire.specs.declared.listings.reference.Source.TheVariants as sources
+use Rattle.fetch_lines.specs.Mappings.{spec_at}
+use Rattle.fetch_lines.specs.References.{source_id}
+use Rattle.fetch_lines.specs.Talks.{Talk}
+use Rattle.fetch_lines.specs.declared.listings.mapping.Mapping.{Mapping}
+use Rattle.fetch_lines.specs.declared.listings.mapping.RefMap.{RefMap}
+use Rattle.fetch_lines.specs.declared.listings.mapping.SpecIndex.{SpecIndex}
+use Rattle.fetch_lines.specs.declared.listings.mapping.SpecIndex.TheVariants as indices
+use Rattle.fetch_lines.specs.declared.listings.reference.Ref.{Ref}
+use Rattle.fetch_lines.specs.declared.listings.reference.Ref.TheVariants as remote
+use Rattle.fetch_lines.specs.declared.listings.reference.Source.{Source}
+use Rattle.fetch_lines.specs.declared.listings.reference.Source.TheVariants as sources
 use Rattle.fetch_update.specs.Accepted.{HasOneEach, EditsCarryOut, edit_for, is_found}
 use Rattle.fetch_update.specs.Accepting.{is_accepting}
 use Rattle.fetch_update.specs.Policy.{Policy, value_of, is_stored}

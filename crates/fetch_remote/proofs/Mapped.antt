@@ -14,14 +14,14 @@ use Rattle.fetch_specs.specs.declared.found.Match.{Match}
 use Rattle.fetch_specs.specs.declared.found.SourceRef.{SourceRef}
 use Rattle.fetch_specs.specs.declared.found.SourceRef.TheVariants as matched
 use Rattle.fetch_specs.proofs.Places.{each_mapping}
-use Rattle.fetch_wire.specs.Mappings.{spec_at}
-use Rattle.fetch_wire.specs.References.{name_in}
-use Rattle.fetch_wire.specs.declared.listings.mapping.Mapping.{Mapping}
-use Rattle.fetch_wire.specs.declared.listings.mapping.RefMap.{RefMap}
-use Rattle.fetch_wire.specs.declared.listings.mapping.SpecIndex.TheVariants.{ExplicitInRemote, Implicit}
-use Rattle.fetch_wire.specs.declared.listings.reference.Ref.{Ref}
-use Rattle.fetch_wire.specs.declared.listings.reference.Source.{Source}
-use Rattle.fetch_wire.specs.declared.listings.reference.Source.TheVariants as sources
+use Rattle.fetch_lines.specs.Mappings.{spec_at}
+use Rattle.fetch_lines.specs.References.{name_in}
+use Rattle.fetch_lines.specs.declared.listings.mapping.Mapping.{Mapping}
+use Rattle.fetch_lines.specs.declared.listings.mapping.RefMap.{RefMap}
+use Rattle.fetch_lines.specs.declared.listings.mapping.SpecIndex.TheVariants.{ExplicitInRemote, Implicit}
+use Rattle.fetch_lines.specs.declared.listings.reference.Ref.{Ref}
+use Rattle.fetch_lines.specs.declared.listings.reference.Source.{Source}
+use Rattle.fetch_lines.specs.declared.listings.reference.Source.TheVariants as sources
 use Rattle.fetch_update.specs.Accepted.{is_found}
 use Rattle.fetch_conversation.specs.ListStage.{LsRefsValue, ListedValue, extra_specs}
 use Rattle.fetch_conversation.specs.Mapped.{index_among, mapping_by, ref_mappings, taken_by}

@@ -8,7 +8,7 @@ use Rattle.fetch_negotiate.specs.Windows.{first_size}
 use Rattle.fetch_negotiate.specs.declared.algorithm.Algorithm.{Algorithm}
 use Rattle.fetch_negotiate.specs.declared.algorithm.Round.{Round}
 use Rattle.fetch_negotiate.proofs.Rounding.{all_told, are_full}
-use Rattle.fetch_wire.specs.declared.lines.line.Line.{Line}
+use Rattle.fetch_lines.specs.declared.lines.line.Line.{Line}
 use Rattle.fetch_conversation.specs.Conversation.{Conversation, ends, sent_in, answer_in}
 use Rattle.fetch_conversation.specs.ConverseStage.{algorithm_in, no_mapping, other_hash, unfit, lacking, wanting, converse_stage}
 use Rattle.fetch_conversation.specs.Exchange.{FetchArgumentsValue, asked_by}

@@ -9,18 +9,18 @@ use Rattle.fetch_base.specs.declared.id.ObjectId.{ObjectId}
 use Rattle.fetch_specs.specs.Conflicts.{conflicts_of}
 use Rattle.fetch_specs.specs.Matches.{mappings_of}
 use Rattle.fetch_specs.specs.declared.conflict.Conflict.{Conflict}
-use Rattle.fetch_wire.specs.Awaited.{told_at}
-use Rattle.fetch_wire.specs.Requests.{first_line}
-use Rattle.fetch_wire.specs.Written.{first_too_long}
-use Rattle.fetch_wire.specs.declared.replies.reply.ReplyKind.{ReplyKind}
-use Rattle.fetch_wire.specs.declared.replies.reply.ReplyKind.TheVariants as awaits
-use Rattle.fetch_wire.specs.declared.replies.reply.ReplyError.{ReplyError}
-use Rattle.fetch_wire.specs.declared.replies.reply.ParsedReply.{ParsedReply}
-use Rattle.fetch_wire.specs.declared.replies.reply.ParsedReply.TheVariants as told
-use Rattle.fetch_wire.specs.declared.greetings.handshake.Handshake.{Handshake}
-use Rattle.fetch_wire.specs.declared.lines.line.Line.{Line}
-use Rattle.fetch_wire.specs.declared.listings.reference.Ref.{Ref}
-use Rattle.fetch_wire.specs.References.{name_in}
+use Rattle.fetch_replies.specs.Awaited.{told_at}
+use Rattle.fetch_lines.specs.Requests.{first_line}
+use Rattle.fetch_lines.specs.Written.{first_too_long}
+use Rattle.fetch_replies.specs.declared.replies.reply.ReplyKind.{ReplyKind}
+use Rattle.fetch_replies.specs.declared.replies.reply.ReplyKind.TheVariants as awaits
+use Rattle.fetch_replies.specs.declared.replies.reply.ReplyError.{ReplyError}
+use Rattle.fetch_replies.specs.declared.replies.reply.ParsedReply.{ParsedReply}
+use Rattle.fetch_replies.specs.declared.replies.reply.ParsedReply.TheVariants as told
+use Rattle.fetch_lines.specs.declared.greetings.handshake.Handshake.{Handshake}
+use Rattle.fetch_lines.specs.declared.lines.line.Line.{Line}
+use Rattle.fetch_lines.specs.declared.listings.reference.Ref.{Ref}
+use Rattle.fetch_lines.specs.References.{name_in}
 use Rattle.fetch_conversation.specs.Conversation.{Conversation, ends, asks, asks_unless, asking, and_then, after_reply, answer_in}
 use Rattle.fetch_conversation.specs.ConverseStage.{converse_stage, wanting, fetching, received, rejected, result_unless, unpacked, with_pack, without_pack, no_mapping, unfit, lacking, is_same_kind}
 use Rattle.fetch_conversation.specs.Exchange.{FetchArgumentsValue}

@@ -3,8 +3,8 @@ use Rattle.std.proofs.Common.{◌≡◌, ℕ, Bool, true, false, List, [], ◌++
 use Rattle.std.specs.Prelude.{◌⊎◌}
 use Rattle.std.proofs.lemmas.List.{append-nil}
 use Rattle.fetch_update.specs.declared.worktrees.Worktree.{Worktree}
-use Rattle.fetch_wire.specs.Talks.{Talk, Talks, IsFront, Talks-then}
-use Rattle.fetch_wire.specs.Written.{lines_text}
+use Rattle.fetch_lines.specs.Talks.{Talk, Talks, IsFront, Talks-then}
+use Rattle.fetch_lines.specs.Written.{lines_text}
 use Rattle.fetch_conversation.specs.Conversation.{answer_in, IsAwaited, Breaks}
 use Rattle.fetch_conversation.specs.Conversation as held
 use Rattle.fetch_conversation.specs.Errors.{is_free_listing, is_interrupted}

@@ -1,7 +1,7 @@
 -- A conversation that was held to its end, by what was said and heard.
 use Rattle.std.proofs.Common.{◌≡◌, ℕ, Bool, List, [], ◌++◌, Option, Ok, refl, ap, ◌∙◌, append_assoc}
-use Rattle.fetch_wire.specs.Talks.{Talk, Talks, Talks-then, Talks-none}
-use Rattle.fetch_wire.specs.Written.{lines_text}
+use Rattle.fetch_lines.specs.Talks.{Talk, Talks, Talks-then, Talks-none}
+use Rattle.fetch_lines.specs.Written.{lines_text}
 use Rattle.fetch_conversation.specs.Conversation.{Conversation, ends, sent_in, answer_in, and_then, map_refusal, told_as, AllGave, IsAwaited, Concludes}
 use Rattle.fetch_conversation.proofs.Chained.{text_then, answer_then, answer_behind, sent_as, answer_as, awaited_early, awaited_as, awaited_then}
 use Rattle.fetch_conversation.proofs.Tied.{awaited_first}

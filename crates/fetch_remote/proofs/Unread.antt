@@ -2,26 +2,27 @@
 use Rattle.std.proofs.Common.{◌≡◌, ◌⊎◌, inl, inr, ℕ, zero, suc, ◌+◌, Bool, true, false, List, [], ◌∷◌, ◌++◌, length, Option, Some, None, Result, Ok, Err, refl, sym, ap, ◌∙◌, subst}
 use Rattle.std.specs.Prelude.{⊤, if◌then◌else◌, ◌==◌}
 use Rattle.fetch_base.specs.declared.id.ObjectId.{ObjectId}
-use Rattle.fetch_wire.specs.declared.replies.reply.ReplyContext.{ReplyContext}
-use Rattle.fetch_wire.specs.declared.replies.reply.ReplyKind.TheVariants as awaits
-use Rattle.fetch_wire.specs.declared.replies.reply.ReplyError.{ReplyError}
-use Rattle.fetch_wire.specs.declared.replies.reply.ParsedReply.{ParsedReply}
-use Rattle.fetch_wire.specs.declared.replies.reply.ParsedReply.TheVariants as told
-use Rattle.fetch_wire.specs.declared.lines.line.Line.{Line}
-use Rattle.fetch_wire.specs.declared.lines.line.Line.TheVariants.{Payload, Flush, Delim, End}
-use Rattle.fetch_wire.specs.declared.lines.section.LineError.{LineError}
-use Rattle.fetch_wire.specs.declared.replies.parser.Part.{Part}
-use Rattle.fetch_wire.specs.declared.replies.parser.Part.TheVariants as parts
-use Rattle.fetch_wire.specs.declared.replies.parser.ReplyParser.{ReplyParser}
-use Rattle.fetch_wire.specs.declared.replies.parser.ReplyParser.TheVariants as reading
-use Rattle.fetch_wire.specs.declared.requests.records.FetchReply.{FetchReply}
-use Rattle.fetch_wire.specs.Awaited.{step_of, told_at}
-use Rattle.fetch_wire.specs.KnownIds.{each_once}
-use Rattle.fetch_wire.specs.FetchReplies.{no_reply, is_packfile, is_shallow_info, is_acknowledgments, is_nak, is_ready, acknowledged_in, shallow_in, unshallow_in, with_bytes, at_packfile, at_rest, at_beginning, at_acknowledgment, behind_ready, at_change}
-use Rattle.fetch_wire.specs.Lines.{line_at, line_len}
-use Rattle.fetch_wire.specs.Stepping.{Step, goes, ends, breaks, says, or_breaks, after_step, after_line, read_within}
-use Rattle.fetch_wire.specs.Steps.{by_line, error_text}
-use Rattle.fetch_wire.specs.Texts.{without_lf, is_error}
+use Rattle.fetch_replies.specs.declared.replies.reply.ReplyContext.{ReplyContext}
+use Rattle.fetch_replies.specs.declared.replies.reply.ReplyKind.TheVariants as awaits
+use Rattle.fetch_replies.specs.declared.replies.reply.ReplyError.{ReplyError}
+use Rattle.fetch_replies.specs.declared.replies.reply.ParsedReply.{ParsedReply}
+use Rattle.fetch_replies.specs.declared.replies.reply.ParsedReply.TheVariants as told
+use Rattle.fetch_lines.specs.declared.lines.line.Line.{Line}
+use Rattle.fetch_lines.specs.declared.lines.line.Line.TheVariants.{Payload, Flush, Delim, End}
+use Rattle.fetch_lines.specs.declared.lines.section.LineError.{LineError}
+use Rattle.fetch_replies.specs.declared.replies.parser.Part.{Part}
+use Rattle.fetch_replies.specs.declared.replies.parser.Part.TheVariants as parts
+use Rattle.fetch_replies.specs.declared.replies.parser.ReplyParser.{ReplyParser}
+use Rattle.fetch_replies.specs.declared.replies.parser.ReplyParser.TheVariants as reading
+use Rattle.fetch_lines.specs.declared.requests.records.FetchReply.{FetchReply}
+use Rattle.fetch_replies.specs.Awaited.{step_of, told_at}
+use Rattle.fetch_lines.specs.KnownIds.{each_once}
+use Rattle.fetch_lines.specs.FetchRecords.{no_reply}
+use Rattle.fetch_replies.specs.FetchReplies.{is_packfile, is_shallow_info, is_acknowledgments, is_nak, is_ready, acknowledged_in, shallow_in, unshallow_in, with_bytes, at_packfile, at_rest, at_beginning, at_acknowledgment, behind_ready, at_change}
+use Rattle.fetch_lines.specs.Lines.{line_at, line_len}
+use Rattle.fetch_replies.specs.Stepping.{Step, goes, ends, breaks, says, or_breaks, after_step, after_line, read_within}
+use Rattle.fetch_replies.specs.Steps.{by_line, error_text}
+use Rattle.fetch_lines.specs.Texts.{without_lf, is_error}
 
 -- the same reply, read up to its pack
 abbrev pub up_to_pack : ReplyContext → ReplyContext

@@ -5,8 +5,8 @@ use Rattle.std.specs.Prelude.{Some, None, Result, Ok, Err}
 use Rattle.fetch_base.specs.Calls.{CallList, one_more}
 use Rattle.fetch_base.specs.Faults.{Faults, counted}
 use Rattle.fetch_wire.specs.Scripts.{Script}
-use Rattle.fetch_wire.specs.declared.session.peer.SendFault.{SendFault}
-use Rattle.fetch_wire.specs.declared.session.peer.SendFault.TheVariants as sending
+use Rattle.fetch_lines.specs.declared.peer.SendFault.{SendFault}
+use Rattle.fetch_lines.specs.declared.peer.SendFault.TheVariants as sending
 use Rattle.fetch_lookup.specs.declared.direction.Direction.{Direction}
 use Rattle.fetch_remote.specs.declared.connect.Error.{Error}
 use Rattle.fetch_remote.specs.declared.connect.Error.TheVariants as errors

@@ -1,6 +1,6 @@
 -- How the conversation of a fetch ended, or where it broke off.
 use Rattle.std.specs.Prelude.{◌≡◌, ℕ, Bool, List, [], Option}
-use Rattle.fetch_wire.specs.Talks.{Talk}
+use Rattle.fetch_lines.specs.Talks.{Talk}
 use Rattle.fetch_conversation.specs.Conversation.{Concludes, Breaks}
 use Rattle.fetch_conversation.specs.Errors.{is_free_listing, is_free_receiving, is_interrupted, is_stopped}
 use Rattle.fetch_conversation.specs.ListStage.{ListedValue, shown, pending_of}

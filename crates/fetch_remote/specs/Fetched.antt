@@ -21,11 +21,11 @@ use Rattle.fetch_update.specs.declared.update.Outcome.{Outcome as Updates}
 use Rattle.fetch_update.specs.declared.worktrees.Worktree.{Worktree}
 use Rattle.fetch_negotiate.specs.Requests.{is_included}
 use Rattle.fetch_negotiate.specs.Wants.{is_tag_index}
-use Rattle.fetch_wire.specs.Talks.{Talk, Talks}
-use Rattle.fetch_wire.specs.Written.{lines_text}
-use Rattle.fetch_wire.specs.References.{source_id}
-use Rattle.fetch_wire.specs.declared.listings.mapping.Mapping.{Mapping}
-use Rattle.fetch_wire.specs.declared.listings.mapping.RefMap.{RefMap}
+use Rattle.fetch_lines.specs.Talks.{Talk, Talks}
+use Rattle.fetch_lines.specs.Written.{lines_text}
+use Rattle.fetch_lines.specs.References.{source_id}
+use Rattle.fetch_lines.specs.declared.listings.mapping.Mapping.{Mapping}
+use Rattle.fetch_lines.specs.declared.listings.mapping.RefMap.{RefMap}
 use Rattle.fetch_conversation.specs.Conversation.{answer_in, IsAwaited}
 use Rattle.fetch_conversation.specs.ListStage.{ListedValue, all_specs, extra_specs}
 use Rattle.fetch_conversation.specs.Mapped.{ref_mappings}

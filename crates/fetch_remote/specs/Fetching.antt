@@ -5,7 +5,7 @@ use Rattle.fetch_refs.specs.declared.edit.PackedRefs.TheVariants as places
 use Rattle.fetch_update.specs.declared.message.RefLogMessage.{RefLogMessage}
 use Rattle.fetch_update.specs.declared.worktrees.Worktree.{Worktree}
 use Rattle.fetch_specs.specs.declared.tags.Tags.{Tags}
-use Rattle.fetch_wire.specs.declared.lines.line.Line.{Line}
+use Rattle.fetch_lines.specs.declared.lines.line.Line.{Line}
 use Rattle.fetch_conversation.specs.Conversation.{map_refusal, sent_in, answer_in}
 use Rattle.fetch_conversation.specs.declared.fetch.Error.{Error as ReceiveError}
 use Rattle.fetch_remote.specs.Errors.{receiving}

@@ -3,10 +3,10 @@ use Rattle.std.specs.Prelude.{◌≡◌, ℕ, List, map}
 use Rattle.fetch_specs.specs.declared.found.Match.{Match}
 use Rattle.fetch_specs.specs.declared.found.SourceRef.{SourceRef}
 use Rattle.fetch_specs.specs.declared.found.SourceRef.TheVariants as matched
-use Rattle.fetch_wire.specs.declared.listings.mapping.Mapping.{Mapping}
-use Rattle.fetch_wire.specs.declared.listings.reference.Source.{Source}
-use Rattle.fetch_wire.specs.declared.listings.reference.Source.TheVariants as sources
-use Rattle.fetch_wire.specs.References.{name_in}
+use Rattle.fetch_lines.specs.declared.listings.mapping.Mapping.{Mapping}
+use Rattle.fetch_lines.specs.declared.listings.reference.Source.{Source}
+use Rattle.fetch_lines.specs.declared.listings.reference.Source.TheVariants as sources
+use Rattle.fetch_lines.specs.References.{name_in}
 use Rattle.fetch_conversation.specs.Mapped.{index_among}
 
 -- what a refspec matched of a source: the name of the reference, or the id

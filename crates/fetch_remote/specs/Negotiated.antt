@@ -8,11 +8,11 @@ use Rattle.fetch_base.specs.Id.{id_cmp}
 use Rattle.fetch_negotiate.specs.Commits.{IsStoredCommit}
 use Rattle.fetch_negotiate.specs.Rounds.{haves_in}
 use Rattle.fetch_negotiate.specs.declared.algorithm.Round.{Round}
-use Rattle.fetch_wire.specs.RequestLines.{id_lines}
-use Rattle.fetch_wire.specs.RequestWords.{shallow_word}
-use Rattle.fetch_wire.specs.Requests.{sent}
-use Rattle.fetch_wire.specs.declared.lines.line.Line.{Line}
-use Rattle.fetch_wire.specs.declared.lines.line.Line.TheVariants.{Payload, Flush, Delim, End}
+use Rattle.fetch_lines.specs.RequestLines.{id_lines}
+use Rattle.fetch_lines.specs.RequestWords.{shallow_word}
+use Rattle.fetch_lines.specs.Requests.{sent}
+use Rattle.fetch_lines.specs.declared.lines.line.Line.{Line}
+use Rattle.fetch_lines.specs.declared.lines.line.Line.TheVariants.{Payload, Flush, Delim, End}
 use Rattle.fetch_conversation.specs.Conversation.{sent_in}
 use Rattle.fetch_conversation.specs.ListStage.{ListedValue}
 use Rattle.fetch_conversation.specs.Requested.{TellsRounds}

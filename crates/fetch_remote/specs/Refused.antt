@@ -3,8 +3,8 @@ use Rattle.std.specs.Prelude.{◌≡◌, ◌⊎◌, ℕ, Bool, true, false, List
 use Rattle.fetch_files.specs.Trees.{Tree}
 use Rattle.fetch_update.specs.declared.update.Error.{Error as UpdateError}
 use Rattle.fetch_update.specs.declared.worktrees.Worktree.{Worktree}
-use Rattle.fetch_wire.specs.Talks.{Talk, Talks, IsFront, IsDrained}
-use Rattle.fetch_wire.specs.Written.{lines_text}
+use Rattle.fetch_lines.specs.Talks.{Talk, Talks, IsFront, IsDrained}
+use Rattle.fetch_lines.specs.Written.{lines_text}
 use Rattle.fetch_conversation.specs.Conversation.{sent_in, answer_in, IsAwaited}
 use Rattle.fetch_conversation.specs.Errors.{is_worktree_fault}
 use Rattle.fetch_conversation.specs.ListStage.{ListedValue}

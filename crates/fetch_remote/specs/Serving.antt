@@ -3,9 +3,9 @@ use Rattle.std.specs.Prelude.{◌≡◌, true, List, [], Some, None}
 use Rattle.std.specs.Option.{option_map}
 use Rattle.fetch_pack.specs.Reading.{Contents}
 use Rattle.fetch_store.specs.Graph.{graph_of}
-use Rattle.fetch_wire.specs.Greetings.{handshake_of}
-use Rattle.fetch_wire.specs.declared.greetings.handshake.Capability.{Capability}
-use Rattle.fetch_wire.specs.declared.listings.reference.Ref.{Ref}
+use Rattle.fetch_lines.specs.Greetings.{handshake_of}
+use Rattle.fetch_lines.specs.declared.greetings.handshake.Capability.{Capability}
+use Rattle.fetch_lines.specs.declared.listings.reference.Ref.{Ref}
 use Rattle.fetch_conversation.specs.ConverseStage.{with_pack}
 use Rattle.fetch_conversation.specs.Conversing.{IsClear}
 use Rattle.fetch_conversation.specs.ListStage.{ListedValue, map_of}

@@ -6,7 +6,7 @@ use Rattle.fetch_base.specs.Faults.{Faults}
 use Rattle.fetch_negotiate.specs.declared.algorithm.Shallow.TheVariants.{NoChange}
 use Rattle.fetch_files.specs.Trees.{Tree}
 use Rattle.fetch_update.specs.declared.worktrees.Worktree.{Worktree}
-use Rattle.fetch_wire.specs.Talks.{Talk}
+use Rattle.fetch_lines.specs.Talks.{Talk}
 use Rattle.fetch_conversation.specs.Blame.{BlamesPeer, BlamesInterrupt}
 use Rattle.fetch_conversation.specs.Conversation.{Concludes, Breaks}
 use Rattle.fetch_conversation.specs.Errors.{is_free_listing, is_free_receiving, is_interrupted, is_transport, prepare_of, is_stopped}

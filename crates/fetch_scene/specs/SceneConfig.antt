@@ -6,7 +6,7 @@ use Rattle.fetch_config.specs.declared.meta.Meta.{Meta}
 use Rattle.fetch_config.specs.declared.meta.Origin.TheVariants.{Local}
 use Rattle.fetch_config.specs.Contents.{Contents}
 use Rattle.fetch_config.specs.Lines.{broken_line, sections_of}
-use Rattle.fetch_wire.specs.declared.lines.line.Line.{Line}
+use Rattle.fetch_lines.specs.declared.lines.line.Line.{Line}
 use Rattle.fetch_scene.specs.Gives.{◌>>=◌}
 use Rattle.fetch_scene.specs.SceneLines.{Lines, value_of, each_of, group_of, behind_group, first_place}
 

@@ -6,10 +6,10 @@ use Rattle.std.specs.Option.{option_map, ok_or, is_some}
 use Rattle.std.specs.Str.{bytes_eq}
 use Rattle.std.specs.Result.{result_ok}
 use Rattle.fetch_base.specs.Scan.{after}
-use Rattle.fetch_wire.specs.Lines.{line_at, line_len}
-use Rattle.fetch_wire.specs.Texts.{without_lf}
-use Rattle.fetch_wire.specs.declared.lines.line.Line.{Line}
-use Rattle.fetch_wire.specs.declared.lines.line.Line.TheVariants.{Payload, Flush, Delim, End}
+use Rattle.fetch_lines.specs.Lines.{line_at, line_len}
+use Rattle.fetch_lines.specs.Texts.{without_lf}
+use Rattle.fetch_lines.specs.declared.lines.line.Line.{Line}
+use Rattle.fetch_lines.specs.declared.lines.line.Line.TheVariants.{Payload, Flush, Delim, End}
 use Rattle.fetch_scene.specs.Gives.{◌>>=◌}
 
 -- a line and the place where it begins

@@ -3,7 +3,7 @@ use Rattle.std.specs.Prelude.{ℕ, ◌==◌, true, false, nat_lt, List, [], ◌�
 use Rattle.std.specs.Option.{option_map}
 use Rattle.std.specs.Str.{bytes_eq}
 use Rattle.fetch_base.specs.Scan.{◌>>=◌, split_first}
-use Rattle.fetch_wire.specs.declared.lines.line.Line.{Line}
+use Rattle.fetch_lines.specs.declared.lines.line.Line.{Line}
 use Rattle.fetch_scene.specs.declared.options.SceneOption.{SceneOption}
 use Rattle.fetch_scene.specs.declared.options.SceneOption.TheVariants.{DryRun, PackedOnly, NoFilter, Depth, Deepen, Since, Not, Parameter}
 use Rattle.fetch_scene.specs.declared.options.SceneOption.TheVariants.{Bound, Action, Message}

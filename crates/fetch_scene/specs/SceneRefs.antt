@@ -4,7 +4,7 @@ use Rattle.std.specs.List.{list_any}
 use Rattle.std.specs.Option.{ok_or}
 use Rattle.std.specs.Str.{bytes_eq}
 use Rattle.fetch_base.specs.declared.id.Kind.{Kind}
-use Rattle.fetch_wire.specs.declared.lines.line.Line.{Line}
+use Rattle.fetch_lines.specs.declared.lines.line.Line.{Line}
 use Rattle.fetch_scene.specs.declared.references.Reference.{Reference}
 use Rattle.fetch_scene.specs.Gives.{◌>>=◌}
 use Rattle.fetch_scene.specs.LineKinds.{reference_of}

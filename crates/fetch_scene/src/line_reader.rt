@@ -1,7 +1,7 @@
 //! What lines give, one kind of line by one reader.
 
 ghost use Rattle.std.specs.Prelude.{◌≡◌, IfOk, Option};
-ghost use Rattle.fetch_wire.specs.declared.lines.line.Line.{Line};
+ghost use Rattle.fetch_lines.specs.declared.lines.line.Line.{Line};
 ghost use Rattle.fetch_scene.specs.SceneLines.{each_of, each_with, next, next_if};
 ghost use Rattle.fetch_scene.specs.Gives.{Gives};
 

@@ -2,12 +2,12 @@
 
 ghost use Rattle.std.specs.Prelude.{◌≡◌};
 ghost use Rattle.std.specs.Option.{option_copied};
-ghost use Rattle.fetch_wire.specs.LineViews.{line_of};
+ghost use Rattle.fetch_lines.specs.LineViews.{line_of};
 ghost use Rattle.fetch_scene.specs.SceneLines as spec;
 ghost use Rattle.fetch_scene.specs.Gives.{GivesBy};
 
 use crate::fault::SceneFault;
-use fetch_wire::{LineRef, without_line_feed};
+use fetch_lines::{LineRef, without_line_feed};
 use std::marker::Model;
 
 /// A line and the place where it begins.
@@ -18,7 +18,7 @@ pub struct Placed<'a> {
 }
 
 impl<'a> Model for Placed<'a> {
-    ghost use Rattle.fetch_wire.specs.LineViews.{line_of};
+    ghost use Rattle.fetch_lines.specs.LineViews.{line_of};
     ghost use Rattle.fetch_scene.specs.SceneLines as spec;
 
     ghost Value = { spec.Placed };

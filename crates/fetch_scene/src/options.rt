@@ -7,11 +7,11 @@ use crate::line_reader::ReadsLine;
 use crate::lines::Placed;
 use crate::names::partial_name;
 use crate::numbers::{number, small_number};
+use fetch_lines::ReplyBound;
 use fetch_negotiate::{Depth, Shallow};
 use fetch_specs::PartialName;
 use fetch_store::{List, NoMemory, Text, split_first};
 use fetch_update::RefLogMessage;
-use fetch_wire::ReplyBound;
 use std::alloc::Global;
 use std::mem;
 

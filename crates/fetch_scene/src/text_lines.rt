@@ -2,13 +2,13 @@
 
 ghost use Rattle.std.specs.Prelude.{◌≡◌, ◌≤◌, ◌^◌, ◌<◌, ◌+◌, length, drop, IfOk, IfSome};
 ghost use Rattle.std.specs.Option.{option_map};
-ghost use Rattle.fetch_wire.specs.LineViews.{line_of};
-ghost use Rattle.fetch_wire.specs.Lines.{line_len};
+ghost use Rattle.fetch_lines.specs.LineViews.{line_of};
+ghost use Rattle.fetch_lines.specs.Lines.{line_len};
 ghost use Rattle.fetch_scene.specs.SceneLines as spec;
 
 use crate::lines::Placed;
+use fetch_lines::{LineRef, line_in};
 use fetch_store::NoMemory;
-use fetch_wire::{LineRef, line_in};
 use std::alloc::Global;
 
 /// The line at a place, and the place after it.

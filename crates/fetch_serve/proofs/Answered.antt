@@ -19,24 +19,24 @@ use Rattle.fetch_base.specs.declared.id.Kind.TheVariants.{Sha1, Sha256}
 use Rattle.fetch_base.specs.declared.id.ObjectId.{ObjectId}
 use Rattle.fetch_store.proofs.Borders.{named-Contains}
 use Rattle.fetch_store.proofs.Honesty.{commit_at}
-use Rattle.fetch_wire.specs.Bands as bands
-use Rattle.fetch_wire.specs.Awaited.{start_of, step_of}
-use Rattle.fetch_wire.specs.FetchReplies.{no_reply}
-use Rattle.fetch_wire.specs.Greetings.{format_in, is_format}
-use Rattle.fetch_wire.specs.KnownIds.{has_id}
-use Rattle.fetch_wire.specs.LinesTold.{Tells}
-use Rattle.fetch_wire.specs.NamesTold.{AreNamedOnce}
-use Rattle.fetch_wire.specs.Requests.{kind_text}
-use Rattle.fetch_wire.specs.ServerLines.{IsChangeOf, IsIdOf, IsListable, IsTellable, IsWord, bands_of, change_lines, in_round, last_lines, round_lines, with_change}
-use Rattle.fetch_wire.specs.Texts.{is_error}
-use Rattle.fetch_wire.specs.Written.{first_too_long}
-use Rattle.fetch_wire.specs.declared.listings.reference.Ref.{Ref}
-use Rattle.fetch_wire.specs.declared.replies.reply.ReplyContext.{ReplyContext}
-use Rattle.fetch_wire.specs.declared.replies.reply.ReplyKind.TheVariants as await
-use Rattle.fetch_wire.specs.declared.replies.reply.ParsedReply.TheVariants as told
-use Rattle.fetch_wire.proofs.GreetingLines.{greeting_tells}
-use Rattle.fetch_wire.proofs.ListingLines.{listing_tells}
-use Rattle.fetch_wire.proofs.ReplyLines.{bands_hold, last_tells, round_tells}
+use Rattle.fetch_lines.specs.Bands as bands
+use Rattle.fetch_replies.specs.Awaited.{start_of, step_of}
+use Rattle.fetch_lines.specs.FetchRecords.{no_reply}
+use Rattle.fetch_lines.specs.Greetings.{format_in, is_format}
+use Rattle.fetch_lines.specs.KnownIds.{has_id}
+use Rattle.fetch_replies.specs.LinesTold.{Tells}
+use Rattle.fetch_replies.specs.NamesTold.{AreNamedOnce}
+use Rattle.fetch_lines.specs.Requests.{kind_text}
+use Rattle.fetch_lines.specs.ServerLines.{IsChangeOf, IsIdOf, IsListable, IsTellable, IsWord, bands_of, change_lines, in_round, last_lines, round_lines, with_change}
+use Rattle.fetch_lines.specs.Texts.{is_error}
+use Rattle.fetch_lines.specs.Written.{first_too_long}
+use Rattle.fetch_lines.specs.declared.listings.reference.Ref.{Ref}
+use Rattle.fetch_replies.specs.declared.replies.reply.ReplyContext.{ReplyContext}
+use Rattle.fetch_replies.specs.declared.replies.reply.ReplyKind.TheVariants as await
+use Rattle.fetch_replies.specs.declared.replies.reply.ParsedReply.TheVariants as told
+use Rattle.fetch_replies.proofs.GreetingLines.{greeting_tells}
+use Rattle.fetch_replies.proofs.ListingLines.{listing_tells}
+use Rattle.fetch_replies.proofs.ReplyLines.{bands_hold, last_tells, round_tells}
 use Rattle.fetch_serve.specs.Answers.{awaits, fails, fetched, pack_bytes, told_of}
 use Rattle.fetch_serve.specs.declared.asked.Asked.{Asked}
 use Rattle.fetch_serve.specs.declared.asked.Asked.TheVariants.{First, Listing, Fetch}

@@ -3,7 +3,7 @@ use Rattle.std.proofs.Common.{◌≡◌, ℕ, ◌+◌, ◌-◌, ◌≤◌, ◌<�
 use Rattle.std.proofs.lemmas.Bool.{cases_lt}
 use Rattle.std.proofs.lemmas.List.{append-nil}
 use Rattle.std.proofs.Math.Seq.{take-append_seam, drop-append_seam, take-add}
-use Rattle.fetch_wire.specs.Talks.{IsFront}
+use Rattle.fetch_lines.specs.Talks.{IsFront}
 use Rattle.fetch_serve.specs.declared.asked.Asked.{Asked}
 use Rattle.fetch_serve.specs.declared.intake.Refusal.{Refusal}
 use Rattle.fetch_serve.specs.declared.intake.Refusal.TheVariants as refusals

@@ -13,14 +13,14 @@ use Rattle.fetch_base.specs.Digits.{hex_of}
 use Rattle.fetch_base.specs.Id.{byte_len, bytes_of, kind_of}
 use Rattle.fetch_store.specs.Objects.{Stored}
 use Rattle.fetch_base.specs.declared.id.ObjectId.{ObjectId}
-use Rattle.fetch_wire.specs.Bands.{Piece, band_line}
-use Rattle.fetch_wire.specs.Bands as bands
-use Rattle.fetch_wire.specs.ServerLines.{bands_of, change_lines, last_lines, round_lines}
-use Rattle.fetch_wire.specs.Written.{first_too_long, line_text, lines_text, too_long_in}
-use Rattle.fetch_wire.specs.declared.lines.line.Line.{Line}
-use Rattle.fetch_wire.specs.declared.lines.line.Line.TheVariants.{Payload, Flush, Delim}
-use Rattle.fetch_wire.specs.RequestLines.{id_lines}
-use Rattle.fetch_wire.specs.Requests.{sent, text_line}
+use Rattle.fetch_lines.specs.Bands.{Piece, band_line}
+use Rattle.fetch_lines.specs.Bands as bands
+use Rattle.fetch_lines.specs.ServerLines.{bands_of, change_lines, last_lines, round_lines}
+use Rattle.fetch_lines.specs.Written.{first_too_long, line_text, lines_text, too_long_in}
+use Rattle.fetch_lines.specs.declared.lines.line.Line.{Line}
+use Rattle.fetch_lines.specs.declared.lines.line.Line.TheVariants.{Payload, Flush, Delim}
+use Rattle.fetch_lines.specs.RequestLines.{id_lines}
+use Rattle.fetch_lines.specs.Requests.{sent, text_line}
 use Rattle.fetch_serve.specs.declared.asked.DepthAsked.{DepthAsked}
 use Rattle.fetch_serve.specs.declared.asked.FetchAsked.{FetchAsked}
 use Rattle.fetch_serve.specs.declared.depth.Depth.{Depth}

@@ -1,11 +1,11 @@
 -- The requests of a text, one after another, and what more bytes do to them.
 use Rattle.std.proofs.Common.{◌≡◌, ℕ, zero, suc, ◌+◌, ◌≤◌, Bool, true, List, [], ◌∷◌, ◌++◌, length, Option, Some, None, Result, Ok, Err, refl, sym, ap, ◌∙◌, arith, length-append}
 use Rattle.fetch_base.specs.declared.id.Kind.{Kind}
-use Rattle.fetch_wire.specs.declared.replies.reply.ReplyError.{ReplyError}
-use Rattle.fetch_wire.specs.declared.replies.reply.ReplyError.TheVariants.{Short, Broken, TooLong, Said}
-use Rattle.fetch_wire.specs.Lines.{line_at}
-use Rattle.fetch_wire.specs.StepLaws.{IsSettled, with_more, read_by-more}
-use Rattle.fetch_wire.specs.Stepping.{read_within}
+use Rattle.fetch_replies.specs.declared.replies.reply.ReplyError.{ReplyError}
+use Rattle.fetch_replies.specs.declared.replies.reply.ReplyError.TheVariants.{Short, Broken, TooLong, Said}
+use Rattle.fetch_lines.specs.Lines.{line_at}
+use Rattle.fetch_replies.specs.StepLaws.{IsSettled, with_more, read_by-more}
+use Rattle.fetch_replies.specs.Stepping.{read_within}
 use Rattle.fetch_serve.specs.declared.asked.Asked.{Asked}
 use Rattle.fetch_serve.specs.declared.error.ServeError.{ServeError}
 use Rattle.fetch_serve.specs.Requests.{asked_step, start_of}

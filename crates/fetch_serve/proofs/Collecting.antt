@@ -20,8 +20,8 @@ use Rattle.fetch_store.proofs.Borders.{alike, named-Contains, Contains-named}
 use Rattle.fetch_base.proofs.Ids.{id_cmp_total}
 use Rattle.fetch_reach.specs.Stored.{objects_at}
 use Rattle.fetch_refs.specs.Leading.{next_tag}
-use Rattle.fetch_wire.specs.References.{id_in, name_in, peeled_in}
-use Rattle.fetch_wire.specs.declared.listings.reference.Ref.{Ref}
+use Rattle.fetch_lines.specs.References.{id_in, name_in, peeled_in}
+use Rattle.fetch_lines.specs.declared.listings.reference.Ref.{Ref}
 use Rattle.fetch_serve.specs.declared.asked.FetchAsked.{FetchAsked}
 use Rattle.fetch_serve.specs.Offered.{offered_of}
 use Rattle.fetch_serve.specs.declared.depth.Depth.{Depth}

@@ -1,12 +1,12 @@
 -- What a reading took is enough for it, whatever comes after.
 use Rattle.std.proofs.Common.{◌≡◌, ℕ, ◌+◌, List, [], ◌∷◌, ◌++◌, Ok, refl, sym, ap, ◌∙◌, append_assoc}
-use Rattle.fetch_wire.specs.Lines.{line_len}
-use Rattle.fetch_wire.specs.LineLaws.{IsLine}
-use Rattle.fetch_wire.specs.LinesTold.{Writes, lines_tell}
-use Rattle.fetch_wire.specs.Stepping.{Step, read_by}
-use Rattle.fetch_wire.specs.Written.{payload_of}
-use Rattle.fetch_wire.specs.declared.lines.line.Line.{Line}
-use Rattle.fetch_wire.proofs.ReadBack.{told_were}
+use Rattle.fetch_lines.specs.Lines.{line_len}
+use Rattle.fetch_lines.specs.LineLaws.{IsLine}
+use Rattle.fetch_replies.specs.LinesTold.{Writes, lines_tell}
+use Rattle.fetch_replies.specs.Stepping.{Step, read_by}
+use Rattle.fetch_lines.specs.Written.{payload_of}
+use Rattle.fetch_lines.specs.declared.lines.line.Line.{Line}
+use Rattle.fetch_replies.proofs.ReadBack.{told_were}
 
 -- bytes at the front that write these lines before any rest
 pub record IsWriting (bound place : ℕ) (lines : List Line) (rest bytes : List ℕ) : Type 0 where

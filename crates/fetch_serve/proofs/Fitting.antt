@@ -26,13 +26,13 @@ use Rattle.fetch_base.proofs.Digests.{length-digest}
 use Rattle.fetch_store.proofs.Graphs.{get-graph_of}
 use Rattle.fetch_reach.specs.Named.{AreOwnIds}
 use Rattle.fetch_specs.specs.Names.{is_full_name}
-use Rattle.fetch_wire.specs.ServerLines.{greeting_lines, listing_lines_of, ref_text}
-use Rattle.fetch_wire.specs.Requests.{kind_text, text_line}
-use Rattle.fetch_wire.specs.Written.{first_too_long, too_long_in}
-use Rattle.fetch_wire.specs.declared.lines.line.Line.{Line}
-use Rattle.fetch_wire.specs.Listings.{ref_with}
-use Rattle.fetch_wire.specs.declared.listings.reference.Ref.{Ref}
-use Rattle.fetch_wire.specs.declared.listings.reference.Ref.TheVariants.{Direct, Symbolic as Naming, Peeled, Unborn}
+use Rattle.fetch_lines.specs.ServerLines.{greeting_lines, listing_lines_of, ref_text}
+use Rattle.fetch_lines.specs.Requests.{kind_text, text_line}
+use Rattle.fetch_lines.specs.Written.{first_too_long, too_long_in}
+use Rattle.fetch_lines.specs.declared.lines.line.Line.{Line}
+use Rattle.fetch_replies.specs.Listings.{ref_with}
+use Rattle.fetch_lines.specs.declared.listings.reference.Ref.{Ref}
+use Rattle.fetch_lines.specs.declared.listings.reference.Ref.TheVariants.{Direct, Symbolic as Naming, Peeled, Unborn}
 use Rattle.fetch_serve.specs.Offered.{capabilities_of, if_told, is_public, is_told, is_under, listed, offer, offered_of, peeled_behind, target_of}
 use Rattle.fetch_serve.specs.Servable.{IsServable, behind_tags, end_of, is_long, is_unlistable, is_refused, is_unservable}
 use Rattle.fetch_serve.specs.Served.{Data, history_of, references_of}

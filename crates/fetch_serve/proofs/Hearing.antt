@@ -4,15 +4,15 @@ use Rattle.std.specs.Prelude.{◌⊎◌}
 use Rattle.std.proofs.lemmas.List.{append-nil, length-take, take_all, take_at, take_more}
 use Rattle.std.proofs.Math.Seq.{drop-cons, take-append_seam}
 use Rattle.fetch_base.specs.declared.id.Kind.{Kind}
-use Rattle.fetch_wire.specs.LinesTold.{Tells, Writes}
-use Rattle.fetch_wire.specs.Talks.{IsFront}
-use Rattle.fetch_wire.specs.Written.{payload_of}
-use Rattle.fetch_wire.specs.declared.lines.line.Line.{Line}
-use Rattle.fetch_wire.specs.declared.replies.reply.ReplyError.{ReplyError}
-use Rattle.fetch_wire.specs.declared.replies.reply.ReplyError.TheVariants.{Short, Broken, TooLong, Said}
-use Rattle.fetch_wire.specs.declared.session.peer.SendFault.{SendFault}
-use Rattle.fetch_wire.specs.declared.session.peer.SendFault.TheVariants as sending
-use Rattle.fetch_wire.proofs.ReadBack.{told_were}
+use Rattle.fetch_replies.specs.LinesTold.{Tells, Writes}
+use Rattle.fetch_lines.specs.Talks.{IsFront}
+use Rattle.fetch_lines.specs.Written.{payload_of}
+use Rattle.fetch_lines.specs.declared.lines.line.Line.{Line}
+use Rattle.fetch_replies.specs.declared.replies.reply.ReplyError.{ReplyError}
+use Rattle.fetch_replies.specs.declared.replies.reply.ReplyError.TheVariants.{Short, Broken, TooLong, Said}
+use Rattle.fetch_lines.specs.declared.peer.SendFault.{SendFault}
+use Rattle.fetch_lines.specs.declared.peer.SendFault.TheVariants as sending
+use Rattle.fetch_replies.proofs.ReadBack.{told_were}
 use Rattle.fetch_serve.specs.declared.asked.Asked.{Asked}
 use Rattle.fetch_serve.specs.declared.error.ServeError.{ServeError}
 use Rattle.fetch_serve.specs.declared.error.ServeError.TheVariants as errors

@@ -16,7 +16,7 @@ use Rattle.fetch_base.specs.declared.id.Kind.TheVariants.{Sha1, Sha256}
 use Rattle.fetch_base.specs.declared.id.ObjectId.{ObjectId}
 use Rattle.fetch_base.proofs.Digests.{length-digest}
 use Rattle.fetch_reach.specs.Named.{own_id}
-use Rattle.fetch_wire.specs.ServerLines.{IsIdOf}
+use Rattle.fetch_lines.specs.ServerLines.{IsIdOf}
 use Rattle.fetch_serve.specs.Servable.{IsServable}
 use Rattle.fetch_serve.specs.Served.{Data}
 

@@ -2,15 +2,15 @@
 use Rattle.std.proofs.Common.{◌≡◌, ℕ, ◌+◌, ◌≤◌, Bool, List, [], ◌++◌, length, drop, Option, Some, None, Result, Ok, Err, refl, sym, ap, ◌∙◌, arith, append_assoc, length-append, subst}
 use Rattle.std.proofs.lemmas.List.{append-nil, drop-append-le, drop-drop}
 use Rattle.fetch_base.specs.declared.id.Kind.{Kind}
-use Rattle.fetch_wire.specs.declared.lines.line.Line.{Line}
-use Rattle.fetch_wire.specs.declared.lines.section.LineError.{LineError}
-use Rattle.fetch_wire.specs.declared.lines.section.LineError.TheVariants as lines
-use Rattle.fetch_wire.specs.declared.replies.reply.ReplyError.TheVariants.{Short, Broken}
-use Rattle.fetch_wire.specs.Lines.{line_at, line_len}
-use Rattle.fetch_wire.specs.LineLaws.{line_at-is, line_at-short}
-use Rattle.fetch_wire.specs.SectionLaws.{line_at-more}
-use Rattle.fetch_wire.specs.StepLaws.{line_then, read_by-step}
-use Rattle.fetch_wire.specs.Stepping.{goes, ends, breaks, after_line, after_step, read_by}
+use Rattle.fetch_lines.specs.declared.lines.line.Line.{Line}
+use Rattle.fetch_lines.specs.declared.lines.section.LineError.{LineError}
+use Rattle.fetch_lines.specs.declared.lines.section.LineError.TheVariants as lines
+use Rattle.fetch_replies.specs.declared.replies.reply.ReplyError.TheVariants.{Short, Broken}
+use Rattle.fetch_lines.specs.Lines.{line_at, line_len}
+use Rattle.fetch_lines.specs.LineLaws.{line_at-is, line_at-short}
+use Rattle.fetch_lines.specs.SectionLaws.{line_at-more}
+use Rattle.fetch_replies.specs.StepLaws.{line_then, read_by-step}
+use Rattle.fetch_replies.specs.Stepping.{goes, ends, breaks, after_line, after_step, read_by}
 use Rattle.fetch_serve.specs.declared.asked.Asked.{Asked}
 use Rattle.fetch_serve.specs.declared.intake.Refusal.{Refusal}
 use Rattle.fetch_serve.specs.declared.intake.Refusal.TheVariants as refusals

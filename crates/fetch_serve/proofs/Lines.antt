@@ -9,15 +9,15 @@ use Rattle.std.proofs.lemmas.List.Elements.{All-head, All-tail}
 use Rattle.hex.specs.Hex.{encode_lower}
 use Rattle.fetch_base.specs.Id.{bytes_of}
 use Rattle.fetch_base.specs.declared.id.ObjectId.{ObjectId}
-use Rattle.fetch_wire.specs.Bands.{Piece, band_line, pack_lines}
-use Rattle.fetch_wire.specs.Cutting.{pieces_within}
-use Rattle.fetch_wire.specs.RequestLines.{id_lines}
-use Rattle.fetch_wire.specs.Requests.{sent, text_line}
-use Rattle.fetch_wire.specs.ServerLines.{acknowledged_texts, bands_of, change_lines, round_lines}
-use Rattle.fetch_wire.specs.Written.{first_too_long, line_text, lines_text, too_long_in}
-use Rattle.fetch_wire.specs.declared.lines.line.Line.{Line}
-use Rattle.fetch_wire.specs.declared.lines.line.Line.TheVariants.{Payload, Flush, Delim}
-use Rattle.fetch_wire.proofs.Cut.{cut_more, cut_none}
+use Rattle.fetch_lines.specs.Bands.{Piece, band_line, pack_lines}
+use Rattle.fetch_lines.specs.Cutting.{pieces_within}
+use Rattle.fetch_lines.specs.RequestLines.{id_lines}
+use Rattle.fetch_lines.specs.Requests.{sent, text_line}
+use Rattle.fetch_lines.specs.ServerLines.{acknowledged_texts, bands_of, change_lines, round_lines}
+use Rattle.fetch_lines.specs.Written.{first_too_long, line_text, lines_text, too_long_in}
+use Rattle.fetch_lines.specs.declared.lines.line.Line.{Line}
+use Rattle.fetch_lines.specs.declared.lines.line.Line.TheVariants.{Payload, Flush, Delim}
+use Rattle.fetch_lines.proofs.Cut.{cut_more, cut_none}
 use Rattle.fetch_serve.specs.Replies.{error_lines, not_offered, too_large}
 use Rattle.fetch_serve.proofs.Fitting.{text_fits}
 

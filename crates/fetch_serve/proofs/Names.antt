@@ -12,10 +12,10 @@ use Rattle.fetch_refs.specs.Names.{Names, name_cmp}
 use Rattle.fetch_refs.specs.declared.target.Target.{Target}
 use Rattle.fetch_specs.specs.Names.{components, is_component, is_full_name, is_name, lock, may_stand}
 use Rattle.fetch_base.specs.Lines.{IsWithout}
-use Rattle.fetch_wire.specs.NamesTold.{AreNamedOnce}
-use Rattle.fetch_wire.specs.References.{name_in}
-use Rattle.fetch_wire.specs.ServerLines.{IsWord}
-use Rattle.fetch_wire.specs.declared.listings.reference.Ref.{Ref}
+use Rattle.fetch_replies.specs.NamesTold.{AreNamedOnce}
+use Rattle.fetch_lines.specs.References.{name_in}
+use Rattle.fetch_lines.specs.ServerLines.{IsWord}
+use Rattle.fetch_lines.specs.declared.listings.reference.Ref.{Ref}
 
 -- ---- a full name has no space
 

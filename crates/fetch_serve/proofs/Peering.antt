@@ -5,9 +5,9 @@ use Rattle.std.proofs.Math.Seq.{take-append_seam, drop-append_seam}
 use Rattle.std.proofs.lemmas.List.{append-nil, map-append, take_all}
 use Rattle.fetch_base.specs.Faults.{Counts, Counts-none, Rose}
 use Rattle.fetch_base.specs.declared.failed.Failed.{Failed}
-use Rattle.fetch_wire.specs.Talks.{IsDrained, Makes, Passes, Receive, Receives, Sends, Talk, Talks, at_once, behind}
-use Rattle.fetch_wire.specs.declared.session.peer.SendFault.{SendFault}
-use Rattle.fetch_wire.specs.declared.session.peer.SendFault.TheVariants as sending
+use Rattle.fetch_lines.specs.Talks.{IsDrained, Makes, Passes, Receive, Receives, Sends, Talk, Talks, at_once, behind}
+use Rattle.fetch_lines.specs.declared.peer.SendFault.{SendFault}
+use Rattle.fetch_lines.specs.declared.peer.SendFault.TheVariants as sending
 use Rattle.fetch_serve.specs.declared.error.ServeError.{ServeError}
 use Rattle.fetch_serve.specs.declared.intake.Refusal.{Refusal}
 use Rattle.fetch_serve.specs.declared.intake.Refusal.TheVariants as refusals

@@ -16,10 +16,10 @@ use Rattle.fetch_base.specs.declared.id.ObjectId.{ObjectId}
 use Rattle.fetch_store.proofs.Graphs.{get-graph_of}
 use Rattle.fetch_store.proofs.Lists.{map_nil}
 use Rattle.fetch_store.proofs.Members.{cases_in, none_in}
-use Rattle.fetch_wire.specs.Listings.{ref_with}
-use Rattle.fetch_wire.specs.References.{id_in, name_in, peeled_in, target_in}
-use Rattle.fetch_wire.specs.declared.listings.reference.Ref.{Ref}
-use Rattle.fetch_wire.specs.declared.listings.reference.Ref.TheVariants.{Direct, Symbolic as Naming, Peeled, Unborn}
+use Rattle.fetch_replies.specs.Listings.{ref_with}
+use Rattle.fetch_lines.specs.References.{id_in, name_in, peeled_in, target_in}
+use Rattle.fetch_lines.specs.declared.listings.reference.Ref.{Ref}
+use Rattle.fetch_lines.specs.declared.listings.reference.Ref.TheVariants.{Direct, Symbolic as Naming, Peeled, Unborn}
 use Rattle.fetch_serve.specs.Offered.{ids_in, if_told, is_public, is_told, is_under, listed, offer, offered_ids, offered_of, peeled_behind, some_of, target_of}
 use Rattle.fetch_serve.specs.Servable.{IsServable, behind_tags, end_of, is_long, is_refused, is_unlistable, is_unservable}
 use Rattle.fetch_serve.specs.Served.{Data, history_of, references_of}

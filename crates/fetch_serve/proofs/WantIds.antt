@@ -14,15 +14,15 @@ use Rattle.fetch_base.specs.Scan.{after}
 use Rattle.fetch_base.specs.declared.id.Kind.{Kind}
 use Rattle.fetch_base.specs.declared.id.Kind.TheVariants.{Sha1, Sha256}
 use Rattle.fetch_base.specs.declared.id.ObjectId.{ObjectId}
-use Rattle.fetch_wire.specs.LinesTold.{Tells}
-use Rattle.fetch_wire.specs.RequestWords.{command_word, deepen_word, not_word, relative_word, since_word, have_word, plain_pack, plain_pack_2, shallow_word, want_word}
-use Rattle.fetch_wire.specs.Requests.{listing_word}
-use Rattle.fetch_wire.specs.ServerLines.{IsIdOf}
-use Rattle.fetch_wire.specs.Stepping.{Step, breaks, ends, goes, or_breaks, says}
-use Rattle.fetch_wire.specs.Texts.{without_lf}
-use Rattle.fetch_wire.specs.declared.lines.line.Line.{Line}
-use Rattle.fetch_wire.specs.declared.lines.line.Line.TheVariants.{Payload, Flush, Delim, End}
-use Rattle.fetch_wire.proofs.ReadBack.{told_were}
+use Rattle.fetch_replies.specs.LinesTold.{Tells}
+use Rattle.fetch_lines.specs.RequestWords.{command_word, deepen_word, not_word, relative_word, since_word, have_word, plain_pack, plain_pack_2, shallow_word, want_word}
+use Rattle.fetch_lines.specs.Requests.{listing_word}
+use Rattle.fetch_lines.specs.ServerLines.{IsIdOf}
+use Rattle.fetch_replies.specs.Stepping.{Step, breaks, ends, goes, or_breaks, says}
+use Rattle.fetch_lines.specs.Texts.{without_lf}
+use Rattle.fetch_lines.specs.declared.lines.line.Line.{Line}
+use Rattle.fetch_lines.specs.declared.lines.line.Line.TheVariants.{Payload, Flush, Delim, End}
+use Rattle.fetch_replies.proofs.ReadBack.{told_were}
 use Rattle.fetch_serve.specs.declared.asked.Asked.{Asked}
 use Rattle.fetch_serve.specs.declared.asked.Asked.TheVariants as asking
 use Rattle.fetch_serve.specs.declared.asked.DepthAsked.TheVariants as depths

@@ -1,13 +1,13 @@
 -- What the replies of a server tell who asked.
 use Rattle.std.specs.Prelude.{ℕ, List, Bool, true, false, ◌||◌, ◌&&◌, Some, is_some, if◌then◌else◌}
-use Rattle.fetch_wire.specs.Greetings.{handshake_of}
-use Rattle.fetch_wire.specs.FetchReplies.{no_reply}
-use Rattle.fetch_wire.specs.ServerLines.{in_round, with_change}
-use Rattle.fetch_wire.specs.declared.replies.reply.ReplyKind.{ReplyKind}
-use Rattle.fetch_wire.specs.declared.replies.reply.ReplyKind.TheVariants as await
-use Rattle.fetch_wire.specs.declared.replies.reply.ParsedReply.{ParsedReply}
-use Rattle.fetch_wire.specs.declared.replies.reply.ParsedReply.TheVariants as told
-use Rattle.fetch_wire.specs.declared.requests.records.FetchReply.{FetchReply}
+use Rattle.fetch_lines.specs.Greetings.{handshake_of}
+use Rattle.fetch_lines.specs.FetchRecords.{no_reply}
+use Rattle.fetch_lines.specs.ServerLines.{in_round, with_change}
+use Rattle.fetch_replies.specs.declared.replies.reply.ReplyKind.{ReplyKind}
+use Rattle.fetch_replies.specs.declared.replies.reply.ReplyKind.TheVariants as await
+use Rattle.fetch_replies.specs.declared.replies.reply.ParsedReply.{ParsedReply}
+use Rattle.fetch_replies.specs.declared.replies.reply.ParsedReply.TheVariants as told
+use Rattle.fetch_lines.specs.declared.requests.records.FetchReply.{FetchReply}
 use Rattle.fetch_serve.specs.declared.asked.Asked.{Asked}
 use Rattle.fetch_serve.specs.declared.asked.Asked.TheVariants.{First, Listing, Fetch}
 use Rattle.fetch_serve.specs.declared.asked.FetchAsked.{FetchAsked}

@@ -12,8 +12,8 @@ use Rattle.fetch_store.specs.Found.{there}
 use Rattle.fetch_store.specs.Graph.{Graph, is_commit_at}
 use Rattle.fetch_store.specs.Spread.{Nexts, IsWithin, next_to}
 use Rattle.fetch_base.specs.declared.id.ObjectId.{ObjectId}
-use Rattle.fetch_wire.specs.References.{name_in}
-use Rattle.fetch_wire.specs.declared.listings.reference.Ref.{Ref}
+use Rattle.fetch_lines.specs.References.{name_in}
+use Rattle.fetch_lines.specs.declared.listings.reference.Ref.{Ref}
 use Rattle.fetch_serve.specs.declared.asked.DepthAsked.{DepthAsked}
 use Rattle.fetch_serve.specs.declared.asked.DepthAsked.TheVariants.{Deepen, Limits}
 use Rattle.fetch_serve.specs.declared.asked.FetchAsked.{FetchAsked}

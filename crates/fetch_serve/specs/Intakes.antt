@@ -1,11 +1,11 @@
 -- Requests, read while their bytes come in pieces.
 use Rattle.std.specs.Prelude.{◌≡◌, ℕ, ◌≤◌, Bool, true, false, List, [], ◌++◌, length, take, drop, Option, Some, None, Result, Ok, Err, ⊤}
 use Rattle.fetch_base.specs.declared.id.Kind.{Kind}
-use Rattle.fetch_wire.specs.declared.replies.reply.ReplyError.{ReplyError}
-use Rattle.fetch_wire.specs.declared.replies.reply.ReplyError.TheVariants.{Short, Broken, TooLong}
-use Rattle.fetch_wire.specs.declared.lines.section.LineError.{LineError}
-use Rattle.fetch_wire.specs.declared.lines.section.LineError.TheVariants as lines
-use Rattle.fetch_wire.specs.Stepping.{read_by}
+use Rattle.fetch_replies.specs.declared.replies.reply.ReplyError.{ReplyError}
+use Rattle.fetch_replies.specs.declared.replies.reply.ReplyError.TheVariants.{Short, Broken, TooLong}
+use Rattle.fetch_lines.specs.declared.lines.section.LineError.{LineError}
+use Rattle.fetch_lines.specs.declared.lines.section.LineError.TheVariants as lines
+use Rattle.fetch_replies.specs.Stepping.{read_by}
 use Rattle.fetch_serve.specs.declared.asked.Asked.{Asked}
 use Rattle.fetch_serve.specs.declared.error.ServeError.{ServeError}
 use Rattle.fetch_serve.specs.declared.error.ServeError.TheVariants as errors

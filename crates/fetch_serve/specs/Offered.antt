@@ -13,12 +13,12 @@ use Rattle.fetch_refs.specs.Peeled.{resolved}
 use Rattle.fetch_refs.specs.declared.target.Target.{Target}
 use Rattle.fetch_refs.specs.declared.target.Target.TheVariants.{Object, Symbolic}
 use Rattle.fetch_specs.specs.Categories.{refs}
-use Rattle.fetch_wire.specs.Listings.{ref_with}
-use Rattle.fetch_wire.specs.References.{id_in, peeled_in}
-use Rattle.fetch_wire.specs.Requests.{kind_text}
-use Rattle.fetch_wire.specs.declared.greetings.handshake.Capability.{Capability}
-use Rattle.fetch_wire.specs.declared.listings.reference.Ref.{Ref}
-use Rattle.fetch_wire.specs.declared.listings.reference.Ref.TheVariants.{Direct, Symbolic as Naming, Peeled, Unborn}
+use Rattle.fetch_replies.specs.Listings.{ref_with}
+use Rattle.fetch_lines.specs.References.{id_in, peeled_in}
+use Rattle.fetch_lines.specs.Requests.{kind_text}
+use Rattle.fetch_lines.specs.declared.greetings.handshake.Capability.{Capability}
+use Rattle.fetch_lines.specs.declared.listings.reference.Ref.{Ref}
+use Rattle.fetch_lines.specs.declared.listings.reference.Ref.TheVariants.{Direct, Symbolic as Naming, Peeled, Unborn}
 use Rattle.fetch_serve.specs.Served.{Data, history_of, references_of}
 use Rattle.fetch_serve.specs.Servable.{behind_tags}
 

@@ -15,8 +15,8 @@ use Rattle.fetch_store.specs.Stores.{ObjectMap}
 use Rattle.fetch_base.specs.declared.id.ObjectId.{ObjectId}
 use Rattle.fetch_refs.specs.Leading.{IsTagWay, next_tag}
 use Rattle.fetch_reach.specs.Stored.{entries_at}
-use Rattle.fetch_wire.specs.References.{id_in, name_in, peeled_in}
-use Rattle.fetch_wire.specs.declared.listings.reference.Ref.{Ref}
+use Rattle.fetch_lines.specs.References.{id_in, name_in, peeled_in}
+use Rattle.fetch_lines.specs.declared.listings.reference.Ref.{Ref}
 use Rattle.fetch_serve.specs.declared.asked.FetchAsked.{FetchAsked}
 use Rattle.fetch_serve.specs.declared.depth.Depth.{Depth}
 use Rattle.fetch_serve.specs.Depths.{border_of, depth_of}

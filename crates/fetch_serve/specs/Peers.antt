@@ -4,9 +4,9 @@ use Rattle.std.specs.Prelude.{Result, Ok, Err, if◌then◌else◌, refl}
 use Rattle.std.specs.Coded.{Coded, code_by, coded_ℕ, coded_list, coded×}
 use Rattle.fetch_base.specs.Calls.{one_more}
 use Rattle.fetch_base.specs.Faults.{Faults}
-use Rattle.fetch_wire.specs.Talks.{Talk, Receive}
-use Rattle.fetch_wire.specs.declared.session.peer.SendFault.{SendFault}
-use Rattle.fetch_wire.specs.declared.session.peer.SendFault.TheVariants as sending
+use Rattle.fetch_lines.specs.Talks.{Talk, Receive}
+use Rattle.fetch_lines.specs.declared.peer.SendFault.{SendFault}
+use Rattle.fetch_lines.specs.declared.peer.SendFault.TheVariants as sending
 use Rattle.fetch_serve.specs.Replies.{replies_of}
 use Rattle.fetch_serve.specs.Served.{Data}
 use Rattle.fetch_serve.specs.Servings.{Serving, coded_data}

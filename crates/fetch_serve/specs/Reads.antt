@@ -1,6 +1,6 @@
 -- What the code gives for a line, as a step.
 use Rattle.std.specs.Prelude.{List, ℕ}
-use Rattle.fetch_wire.specs.Stepping.{Step, goes, ends, breaks}
+use Rattle.fetch_replies.specs.Stepping.{Step, goes, ends, breaks}
 use Rattle.fetch_serve.specs.declared.asked.Asked.{Asked}
 use Rattle.fetch_serve.specs.declared.reading.Read.{Read}
 use Rattle.fetch_serve.specs.declared.reading.Read.TheVariants.{On, Whole, Broken}

@@ -9,10 +9,10 @@ use Rattle.fetch_base.specs.declared.id.ObjectId.{ObjectId}
 use Rattle.fetch_pack.specs.Records.{limit_of, pack_text, payloads_of}
 use Rattle.fetch_pack.specs.declared.version.PackVersion.{PackVersion}
 use Rattle.fetch_reach.specs.Stored.{objects_at}
-use Rattle.fetch_wire.specs.Requests.{text_line}
-use Rattle.fetch_wire.specs.ServerLines.{BorderChange, bands_of, greeting_lines, last_lines, listing_lines_of, round_lines}
-use Rattle.fetch_wire.specs.Written.{lines_text}
-use Rattle.fetch_wire.specs.declared.lines.line.Line.{Line}
+use Rattle.fetch_lines.specs.Requests.{text_line}
+use Rattle.fetch_lines.specs.ServerLines.{BorderChange, bands_of, greeting_lines, last_lines, listing_lines_of, round_lines}
+use Rattle.fetch_lines.specs.Written.{lines_text}
+use Rattle.fetch_lines.specs.declared.lines.line.Line.{Line}
 use Rattle.fetch_serve.specs.declared.asked.Asked.{Asked}
 use Rattle.fetch_serve.specs.declared.asked.Asked.TheVariants.{First, Listing, Fetch}
 use Rattle.fetch_serve.specs.declared.asked.FetchAsked.{FetchAsked}

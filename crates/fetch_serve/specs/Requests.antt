@@ -12,14 +12,14 @@ use Rattle.fetch_base.specs.declared.id.ObjectId.{ObjectId}
 use Rattle.fetch_pack.specs.declared.version.PackVersion.{PackVersion}
 use Rattle.fetch_pack.specs.declared.version.PackVersion.TheVariants.{V1, V2}
 use Rattle.fetch_refs.specs.Names.{name_cmp}
-use Rattle.fetch_wire.specs.declared.lines.line.Line.{Line}
-use Rattle.fetch_wire.specs.declared.lines.line.Line.TheVariants.{Payload, Flush, Delim, End}
-use Rattle.fetch_wire.specs.LinesTold.{Tells}
-use Rattle.fetch_wire.specs.RequestWords.{command_word, format_is, plain_pack, plain_pack_2, include_tag, shallow_word, want_word}
-use Rattle.fetch_wire.specs.RequestWords.{have_word, done_word, deepen_word, relative_word, since_word, not_word}
-use Rattle.fetch_wire.specs.Requests.{listing_word, kind_text}
-use Rattle.fetch_wire.specs.Stepping.{Step, goes, ends, breaks, or_breaks}
-use Rattle.fetch_wire.specs.Texts.{without_lf}
+use Rattle.fetch_lines.specs.declared.lines.line.Line.{Line}
+use Rattle.fetch_lines.specs.declared.lines.line.Line.TheVariants.{Payload, Flush, Delim, End}
+use Rattle.fetch_replies.specs.LinesTold.{Tells}
+use Rattle.fetch_lines.specs.RequestWords.{command_word, format_is, plain_pack, plain_pack_2, include_tag, shallow_word, want_word}
+use Rattle.fetch_lines.specs.RequestWords.{have_word, done_word, deepen_word, relative_word, since_word, not_word}
+use Rattle.fetch_lines.specs.Requests.{listing_word, kind_text}
+use Rattle.fetch_replies.specs.Stepping.{Step, goes, ends, breaks, or_breaks}
+use Rattle.fetch_lines.specs.Texts.{without_lf}
 use Rattle.fetch_serve.specs.declared.asked.Asked.{Asked}
 use Rattle.fetch_serve.specs.declared.asked.Asked.TheVariants as asking
 use Rattle.fetch_serve.specs.declared.asked.DepthAsked.{DepthAsked}

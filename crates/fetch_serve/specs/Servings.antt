@@ -10,7 +10,7 @@ use Rattle.fetch_store.specs.Codes.{coded_kind, coded_id, coded_stored}
 use Rattle.fetch_store.specs.Stores.{ObjectMap}
 use Rattle.fetch_base.specs.Id.{id_cmp}
 use Rattle.fetch_base.specs.declared.id.Kind.{Kind}
-use Rattle.fetch_wire.specs.Talks.{IsFront}
+use Rattle.fetch_lines.specs.Talks.{IsFront}
 use Rattle.fetch_serve.specs.declared.error.ServeError.{ServeError}
 use Rattle.fetch_serve.specs.declared.error.ServeError.TheVariants as errors
 use Rattle.fetch_serve.specs.declared.intake.Refusal.{Refusal}

@@ -1,9 +1,9 @@
 -- The requests of a text, one after another.
 use Rattle.std.specs.Prelude.{◌≡◌, ℕ, zero, suc, Bool, true, List, [], ◌∷◌, ◌++◌, length, Option, Some, None, Result, Ok, Err}
 use Rattle.fetch_base.specs.declared.id.Kind.{Kind}
-use Rattle.fetch_wire.specs.declared.replies.reply.ReplyError.{ReplyError}
-use Rattle.fetch_wire.specs.declared.replies.reply.ReplyError.TheVariants.{Short, Broken, TooLong, Said}
-use Rattle.fetch_wire.specs.Stepping.{read_by}
+use Rattle.fetch_replies.specs.declared.replies.reply.ReplyError.{ReplyError}
+use Rattle.fetch_replies.specs.declared.replies.reply.ReplyError.TheVariants.{Short, Broken, TooLong, Said}
+use Rattle.fetch_replies.specs.Stepping.{read_by}
 use Rattle.fetch_serve.specs.declared.asked.Asked.{Asked}
 use Rattle.fetch_serve.specs.declared.error.ServeError.{ServeError}
 use Rattle.fetch_serve.specs.declared.error.ServeError.TheVariants as errors

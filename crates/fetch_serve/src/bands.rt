@@ -1,18 +1,18 @@
 //! A pack in bands, as it is written.
 
 ghost use Rattle.std.specs.Prelude.{◌≡◌, ◌++◌, ◌≤◌, ◌<◌, map, length, OnOk};
-ghost use Rattle.fetch_wire.specs.Bands.{Piece, band_line};
-ghost use Rattle.fetch_wire.specs.ServerLines.{bands_of};
-ghost use Rattle.fetch_wire.specs.Written.{line_text, lines_text};
+ghost use Rattle.fetch_lines.specs.Bands.{Piece, band_line};
+ghost use Rattle.fetch_lines.specs.ServerLines.{bands_of};
+ghost use Rattle.fetch_lines.specs.Written.{line_text, lines_text};
 
+use fetch_lines::length_digits;
 use fetch_store::NoMemory;
-use fetch_wire::length_digits;
 
 /// How many bytes of a pack a band holds at most.
 const BAND: usize = 65_515;
 
 /// Appends one band.
-#[tactic(auto, unfolding(fetch_wire::specs::Written::line_text))]
+#[tactic(auto, unfolding(fetch_lines::specs::Written::line_text))]
 fn append_band(out: &mut Vec<u8>, piece: &[u8]) -> Result<(), NoMemory>
     requires { length piece.now ≤ 65515 }
     ensures { OnOk result (out.new.items ≡ out.old.items ++ line_text (band_line (Piece piece.now))) }

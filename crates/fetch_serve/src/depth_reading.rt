@@ -5,7 +5,7 @@ ghost use Rattle.fetch_serve.specs.RequestTexts as texts;
 ghost use Rattle.fetch_serve.specs.Requests as spec;
 ghost use Rattle.fetch_serve.specs.declared.fetch_reading.Detail.TheVariants as details;
 ghost use Rattle.fetch_base.specs.Scan.{after};
-ghost use Rattle.fetch_wire.specs.RequestWords as words;
+ghost use Rattle.fetch_lines.specs.RequestWords as words;
 
 use crate::fetch_reading::Detail;
 use fetch_specs::{NameError, PartialName};
@@ -44,7 +44,7 @@ fn small_number(text: &[u8]) -> Option<u32>
 }
 
 /// The depth of `deepen`.
-#[tactic(auto, unfolding(fetch_wire::specs::RequestWords::deepen_word))]
+#[tactic(auto, unfolding(fetch_lines::specs::RequestWords::deepen_word))]
 fn depth_behind(text: &[u8]) -> Option<u32>
     ensures { result ≡ option_and_then texts.small_number_in (after words.deepen_word text.now) }
 {
@@ -52,7 +52,7 @@ fn depth_behind(text: &[u8]) -> Option<u32>
 }
 
 /// The seconds of `deepen-since`.
-#[tactic(auto, unfolding(fetch_wire::specs::RequestWords::since_word))]
+#[tactic(auto, unfolding(fetch_lines::specs::RequestWords::since_word))]
 fn cutoff_behind(text: &[u8]) -> Option<u64>
     ensures { result ≡ option_and_then texts.number_in (after words.since_word text.now) }
 {
@@ -71,7 +71,7 @@ fn name_of(alloc: Global, text: &[u8]) -> Result<Option<PartialName>, NoMemory>
 }
 
 /// The name of `deepen-not`.
-#[tactic(auto, unfolding(fetch_wire::specs::RequestWords::not_word))]
+#[tactic(auto, unfolding(fetch_lines::specs::RequestWords::not_word))]
 fn name_behind(alloc: Global, text: &[u8]) -> Result<Option<PartialName>, NoMemory>
     ensures { IfOk result (λ name. name ≡ option_and_then texts.if_name (after words.not_word text.now)) }
 {
@@ -91,7 +91,7 @@ fn excluded_in(alloc: Global, text: &[u8]) -> Result<Option<Detail>, NoMemory>
 }
 
 /// What a line says of the depth.
-#[tactic(auto, unfolding(crate::specs::Requests::depth_in, fetch_wire::specs::RequestWords::relative_word))]
+#[tactic(auto, unfolding(crate::specs::Requests::depth_in, fetch_lines::specs::RequestWords::relative_word))]
 pub(crate) fn depth_in(alloc: Global, text: &[u8]) -> Result<Option<Detail>, NoMemory>
     ensures { IfOk result (λ detail. detail ≡ spec.depth_in text.now) }
 {

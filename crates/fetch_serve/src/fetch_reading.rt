@@ -6,7 +6,7 @@ ghost use Rattle.fetch_serve.specs.Requests as spec;
 ghost use Rattle.fetch_serve.specs.Requests.{nothing_asked};
 ghost use Rattle.fetch_serve.specs.declared.asked.Asked.TheVariants as asking;
 ghost use Rattle.fetch_serve.specs.declared.asked.DepthAsked.TheVariants as depths;
-ghost use Rattle.fetch_wire.specs.Stepping.{breaks, ends};
+ghost use Rattle.fetch_replies.specs.Stepping.{breaks, ends};
 
 use crate::asked::{Asked, DepthAsked, FetchAsked};
 use crate::depth_reading::depth_in;
@@ -209,7 +209,7 @@ fn worded(hash: Kind, word: &[u8], text: &[u8]) -> Option<ObjectId>
 }
 
 /// What a line says.
-#[tactic(auto, unfolding(crate::specs::Requests::detail_in, fetch_wire::specs::RequestWords::include_tag, fetch_wire::specs::RequestWords::done_word, fetch_wire::specs::RequestWords::shallow_word, fetch_wire::specs::RequestWords::want_word, fetch_wire::specs::RequestWords::have_word))]
+#[tactic(auto, unfolding(crate::specs::Requests::detail_in, fetch_lines::specs::RequestWords::include_tag, fetch_lines::specs::RequestWords::done_word, fetch_lines::specs::RequestWords::shallow_word, fetch_lines::specs::RequestWords::want_word, fetch_lines::specs::RequestWords::have_word))]
 fn detail_in(alloc: Global, hash: Kind, text: &[u8]) -> Result<Option<Detail>, NoMemory>
     ensures { IfOk result (λ detail. detail ≡ spec.detail_in hash text.now) }
 {
@@ -331,7 +331,7 @@ pub(crate) fn read_detail(
 }
 
 /// Reads the version of the pack.
-#[tactic(auto, unfolding(fetch_wire::specs::RequestWords::plain_pack, fetch_wire::specs::RequestWords::plain_pack_2))]
+#[tactic(auto, unfolding(fetch_lines::specs::RequestWords::plain_pack, fetch_lines::specs::RequestWords::plain_pack_2))]
 pub(crate) fn read_version(alloc: Global, saying: Saying<'_>) -> Read
     ensures { step_in result ≡ by_saying breaks breaks spec.at_version saying.entry }
 {

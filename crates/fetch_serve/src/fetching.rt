@@ -10,11 +10,11 @@ ghost use Rattle.fetch_serve.specs.Parts.{held_by};
 ghost use Rattle.fetch_serve.specs.Replies as spec;
 ghost use Rattle.fetch_serve.specs.Servable.{IsServable};
 ghost use Rattle.fetch_base.specs.Digits.{hex_of};
-ghost use Rattle.fetch_wire.specs.ServerLines.{bands_of, change_lines, round_lines};
-ghost use Rattle.fetch_wire.specs.Bands.{pack_lines};
-ghost use Rattle.fetch_wire.specs.RequestLines.{id_lines};
-ghost use Rattle.fetch_wire.specs.Requests.{sent, text_line};
-ghost use Rattle.fetch_wire.specs.Written.{line_text, lines_text};
+ghost use Rattle.fetch_lines.specs.ServerLines.{bands_of, change_lines, round_lines};
+ghost use Rattle.fetch_lines.specs.Bands.{pack_lines};
+ghost use Rattle.fetch_lines.specs.RequestLines.{id_lines};
+ghost use Rattle.fetch_lines.specs.Requests.{sent, text_line};
+ghost use Rattle.fetch_lines.specs.Written.{line_text, lines_text};
 
 use crate::asked::FetchAsked;
 use crate::bands::append_bands;
@@ -24,9 +24,9 @@ use crate::offered::{Wanted, first_unoffered, offered};
 use crate::parts::Parts;
 use crate::replying::{append_line, append_lines};
 use crate::served::{border_of, known, served};
+use fetch_lines::{LineRef, Ref, round_lines};
 use fetch_reach::write_stored;
 use fetch_store::{NoMemory, ObjectId, append_hex};
-use fetch_wire::{LineRef, Ref, round_lines};
 use std::alloc::Global;
 
 /// Appends the one line of a server that doesn't offer this id.

@@ -9,17 +9,17 @@ ghost use Rattle.fetch_serve.specs.Requests.{asked_step, format_text};
 ghost use Rattle.fetch_serve.specs.declared.reading.FetchHead.TheVariants as heads;
 ghost use Rattle.fetch_serve.specs.declared.reading.ListingPart.TheVariants as listing;
 ghost use Rattle.fetch_serve.specs.declared.reading.Reading.TheVariants as readings;
-ghost use Rattle.fetch_wire.specs.LineViews.{line_of};
-ghost use Rattle.fetch_wire.specs.Stepping.{breaks, goes};
+ghost use Rattle.fetch_lines.specs.LineViews.{line_of};
+ghost use Rattle.fetch_replies.specs.Stepping.{breaks, goes};
 
 use crate::asked::Asked;
 use crate::reading::{FetchHead, ListingPart, Read, Reading};
 use crate::saying::{Saying, said_by};
+use fetch_lines::LineRef;
 use fetch_store::{Kind, after, split_first};
-use fetch_wire::LineRef;
 
 /// The line that names the hash.
-#[tactic(auto, unfolding(crate::specs::Requests::format_text, fetch_wire::specs::RequestWords::format_is, fetch_wire::specs::Requests::kind_text))]
+#[tactic(auto, unfolding(crate::specs::Requests::format_text, fetch_lines::specs::RequestWords::format_is, fetch_lines::specs::Requests::kind_text))]
 fn format_text(hash: Kind) -> &'static [u8]
     ensures { result.now ≡ format_text hash }
 {
@@ -90,7 +90,7 @@ pub(crate) fn read_opening(line: LineRef<'_>) -> Read
 }
 
 /// Reads the command of a request.
-#[tactic(auto, unfolding(fetch_wire::specs::RequestWords::command_word, fetch_wire::specs::Requests::listing_word))]
+#[tactic(auto, unfolding(fetch_lines::specs::RequestWords::command_word, fetch_lines::specs::Requests::listing_word))]
 pub(crate) fn read_command(saying: Saying<'_>) -> Read
     ensures { step_in result ≡ by_saying breaks breaks spec.at_command saying.entry }
 {

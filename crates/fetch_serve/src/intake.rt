@@ -8,8 +8,8 @@ ghost use Rattle.std.specs.Prelude.{List, ℕ};
 use crate::asked::Asked;
 use crate::error::ServeError;
 use crate::reading::{Read, Reading};
+use fetch_lines::{LineError, line_in};
 use fetch_store::{Kind, NoMemory};
-use fetch_wire::{LineError, line_in};
 use std::alloc::Global;
 use std::marker::Model;
 

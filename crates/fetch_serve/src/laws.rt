@@ -28,9 +28,9 @@ ghost use Rattle.fetch_store.specs.Spread.{IsWithin, Nexts};
 ghost use Rattle.fetch_base.specs.Id.{id_cmp};
 ghost use Rattle.fetch_base.specs.declared.id.Kind.{Kind};
 ghost use Rattle.fetch_base.specs.declared.id.ObjectId.{ObjectId as Id};
-ghost use Rattle.fetch_wire.specs.Awaited.{start_of, step_of};
-ghost use Rattle.fetch_wire.specs.LinesTold.{Tells};
-ghost use Rattle.fetch_wire.specs.Written.{first_too_long};
+ghost use Rattle.fetch_replies.specs.Awaited.{start_of, step_of};
+ghost use Rattle.fetch_replies.specs.LinesTold.{Tells};
+ghost use Rattle.fetch_lines.specs.Written.{first_too_long};
 
 /// What a text asks stays when more bytes come: they are read on behind it, and behind a line that can't stand nothing is
 /// read. So it doesn't matter how a text is cut into pieces.

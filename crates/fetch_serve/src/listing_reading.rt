@@ -8,7 +8,7 @@ ghost use Rattle.fetch_serve.specs.RequestTexts.{prefix_word};
 ghost use Rattle.fetch_serve.specs.Requests as spec;
 ghost use Rattle.fetch_serve.specs.declared.asked.Asked.TheVariants as asking;
 ghost use Rattle.fetch_base.specs.Scan.{after};
-ghost use Rattle.fetch_wire.specs.Stepping.{breaks, ends};
+ghost use Rattle.fetch_replies.specs.Stepping.{breaks, ends};
 
 use crate::asked::Asked;
 use crate::reading::{Read, Reading};

@@ -17,10 +17,11 @@ ghost use Rattle.fetch_store.specs.Graph.{graph_of};
 ghost use Rattle.fetch_base.specs.Id.{id_cmp};
 
 use crate::parts::Parts;
+use fetch_lines::Ref;
 use fetch_refs::{RefError, TagEnds, TargetRef};
+use fetch_replies::make_ref;
 use fetch_specs::FullName;
 use fetch_store::{NoMemory, ObjectId, Objects, Store, Text, ascending};
-use fetch_wire::{Ref, make_ref};
 use std::alloc::Global;
 
 /// What a tag at this id leads to; nothing of another object.

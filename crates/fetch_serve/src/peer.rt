@@ -8,13 +8,13 @@ ghost use Rattle.fetch_serve.specs.Replies.{replies_of};
 ghost use Rattle.fetch_serve.specs.Servings.{unfed};
 ghost use Rattle.fetch_serve.specs.declared.error.ServeError.TheVariants as errors;
 ghost use Rattle.fetch_base.specs.Faults.{Counts, Rose};
-ghost use Rattle.fetch_wire.specs.Talks.{Makes, Receives, Sends, at_once};
+ghost use Rattle.fetch_lines.specs.Talks.{Makes, Receives, Sends, at_once};
 
 use crate::error::ServeError;
 use crate::intake::Refusal;
 use crate::server::Server;
+use fetch_lines::{Peer, SendFault};
 use fetch_store::{Failed, copy_from};
-use fetch_wire::{Peer, SendFault};
 use opening_value::Openings;
 use std::marker::Model;
 

@@ -3,15 +3,15 @@
 ghost use Rattle.std.specs.Prelude.{◌≡◌, IfOk};
 ghost use Rattle.fetch_serve.specs.Reads.{step_in};
 ghost use Rattle.fetch_serve.specs.Requests.{asked_step, start_of};
-ghost use Rattle.fetch_wire.specs.LineViews.{line_of};
+ghost use Rattle.fetch_lines.specs.LineViews.{line_of};
 
 use crate::asked::Asked;
 use crate::fetch_reading::{FetchReading, read_detail, read_version};
 use crate::head_reading::{read_command, read_fetch, read_listing, read_opening};
 use crate::listing_reading::{read_prefix, read_unborn};
 use crate::saying::said_by;
+use fetch_lines::LineRef;
 use fetch_store::{Kind, List, NoMemory, Text};
-use fetch_wire::LineRef;
 use std::alloc::Global;
 
 /// What comes next in a listing request.

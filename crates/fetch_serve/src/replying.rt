@@ -6,17 +6,17 @@ ghost use Rattle.fetch_serve.specs.Offered.{capabilities_of, offered_of};
 ghost use Rattle.fetch_serve.specs.Parts.{held_by};
 ghost use Rattle.fetch_serve.specs.Replies.{reply_lines, reply_text};
 ghost use Rattle.fetch_serve.specs.Servable.{IsServable};
-ghost use Rattle.fetch_wire.specs.LineViews.{line_of};
-ghost use Rattle.fetch_wire.specs.Requests as requests;
-ghost use Rattle.fetch_wire.specs.ServerLines as lines;
-ghost use Rattle.fetch_wire.specs.Written.{first_too_long, line_text, lines_text, too_long_in};
+ghost use Rattle.fetch_lines.specs.LineViews.{line_of};
+ghost use Rattle.fetch_lines.specs.Requests as requests;
+ghost use Rattle.fetch_lines.specs.ServerLines as lines;
+ghost use Rattle.fetch_lines.specs.Written.{first_too_long, line_text, lines_text, too_long_in};
 
 use crate::asked::Asked;
 use crate::fetching::append_fetch;
 use crate::offered::{Wanted, offered};
 use crate::parts::Parts;
+use fetch_lines::{Capability, Line, LineRef, greeting_lines, listing_lines, write_line};
 use fetch_store::{Kind, NoMemory, Text};
-use fetch_wire::{Capability, Line, LineRef, greeting_lines, listing_lines, write_line};
 use std::alloc::Global;
 
 /// Appends a line that fits.
@@ -53,7 +53,7 @@ fn capability(alloc: Global, name: &[u8], value: &[u8]) -> Result<Capability, No
 }
 
 /// Git's name of a hash.
-#[tactic(auto, unfolding(fetch_wire::specs::Requests::kind_text))]
+#[tactic(auto, unfolding(fetch_lines::specs::Requests::kind_text))]
 fn kind_text(hash: Kind) -> &'static [u8]
     ensures { result.now ≡ requests.kind_text hash }
 {

@@ -5,11 +5,11 @@ ghost use Rattle.fetch_serve.specs.Reads.{by_saying};
 ghost use Rattle.fetch_serve.specs.Requests.{by_request_line};
 ghost use Rattle.fetch_serve.specs.declared.asked.Asked.{Asked};
 ghost use Rattle.fetch_serve.specs.declared.reading.Reading.{Reading};
-ghost use Rattle.fetch_wire.specs.LineViews.{line_of};
-ghost use Rattle.fetch_wire.specs.Stepping.{Step};
-ghost use Rattle.fetch_wire.specs.Texts.{without_lf};
+ghost use Rattle.fetch_lines.specs.LineViews.{line_of};
+ghost use Rattle.fetch_replies.specs.Stepping.{Step};
+ghost use Rattle.fetch_lines.specs.Texts.{without_lf};
 
-use fetch_wire::{LineRef, without_line_feed};
+use fetch_lines::{LineRef, without_line_feed};
 
 /// What a line says.
 #[derive(Clone, Copy)]

@@ -22,9 +22,9 @@ use crate::asked::FetchAsked;
 use crate::depth::{Depth, append_all};
 use crate::offered::stands_among;
 use crate::parts::Parts;
+use fetch_lines::Ref;
 use fetch_reach::{difference, reached_from, union};
 use fetch_store::{Border, List, NoMemory, ObjectId, Objects, Store};
-use fetch_wire::Ref;
 use std::alloc::Global;
 
 /// The haves that are stored, in their order.

@@ -2,11 +2,11 @@
 use Rattle.std.proofs.Common.{◌≡◌, ◌⊎◌, ℕ, true, List, ◌++◌, Option, Some, None, Result, Ok, Err, refl, sym, ap, subst, ◌∙◌, inl, inr}
 use Rattle.std.proofs.lemmas.List.{append_cancel_left}
 use Rattle.fetch_update.specs.declared.update.Error.{Error as UpdateError}
-use Rattle.fetch_wire.specs.Talks.{Talks}
-use Rattle.fetch_wire.specs.Written.{lines_text}
-use Rattle.fetch_wire.specs.declared.replies.reply.ReplyError.{ReplyError}
-use Rattle.fetch_wire.specs.declared.replies.reply.ParsedReply.{ParsedReply as Reply}
-use Rattle.fetch_wire.specs.Awaited.{told_at}
+use Rattle.fetch_lines.specs.Talks.{Talks}
+use Rattle.fetch_lines.specs.Written.{lines_text}
+use Rattle.fetch_replies.specs.declared.replies.reply.ReplyError.{ReplyError}
+use Rattle.fetch_replies.specs.declared.replies.reply.ParsedReply.{ParsedReply as Reply}
+use Rattle.fetch_replies.specs.Awaited.{told_at}
 use Rattle.fetch_conversation.specs.Conversation.{Conversation, ends, asks, after_reply, ends_in, answer_in, awaits_more, IsUnheard, HasValidReplies}
 use Rattle.fetch_conversation.specs.Errors.{is_worktree_fault}
 use Rattle.fetch_conversation.specs.declared.fetch.Error.TheVariants as receive

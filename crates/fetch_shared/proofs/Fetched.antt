@@ -4,8 +4,8 @@ use Rattle.std.proofs.lemmas.List.{append-nil}
 use Rattle.fetch_store.specs.Graph.{graph_of}
 use Rattle.fetch_update.specs.Outcomes.{outcome_of}
 use Rattle.fetch_update.proofs.Wholes.{one_each, accepts_exactly, guesses_exactly, rejects_exactly, edits_carry_out, edits_say, tells_type_changes}
-use Rattle.fetch_wire.specs.Talks.{Talk, Talks-then, Talks-none}
-use Rattle.fetch_wire.specs.Written.{lines_text}
+use Rattle.fetch_lines.specs.Talks.{Talk, Talks-then, Talks-none}
+use Rattle.fetch_lines.specs.Written.{lines_text}
 use Rattle.fetch_conversation.specs.Conversation.{sent_in, Concludes}
 use Rattle.fetch_conversation.specs.Errors.{is_free_receiving}
 use Rattle.fetch_conversation.specs.ListStage.{ListedValue, shown, pending_of}

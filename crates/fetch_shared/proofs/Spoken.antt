@@ -3,7 +3,7 @@ use Rattle.std.proofs.Common.{◌≡◌, ℕ, Bool, List, [], Option, Some, None
 use Rattle.std.specs.Prelude.{IfSome}
 use Rattle.fetch_pack.specs.Once.{AreNamed}
 use Rattle.fetch_store.specs.Graph.{graph_of}
-use Rattle.fetch_wire.specs.Talks.{Talk}
+use Rattle.fetch_lines.specs.Talks.{Talk}
 use Rattle.fetch_conversation.specs.Conversation.{Converses}
 use Rattle.fetch_conversation.specs.Errors.{is_free_listing, is_free_receiving, is_interrupted, is_stopped}
 use Rattle.fetch_conversation.specs.ListStage.{ListedValue, shown, pending_of}

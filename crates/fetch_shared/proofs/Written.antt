@@ -2,8 +2,8 @@
 use Rattle.std.proofs.Common.{◌≡◌, List, [], ◌++◌, ℕ, Option, Some, None, Ok, refl, ap, ◌∙◌}
 use Rattle.fetch_pack.specs.Reading.{Contents}
 use Rattle.fetch_store.specs.Graph.{Graph, graph_of}
-use Rattle.fetch_wire.specs.declared.greetings.handshake.Capability.{Capability}
-use Rattle.fetch_wire.specs.declared.listings.reference.Ref.{Ref}
+use Rattle.fetch_lines.specs.declared.greetings.handshake.Capability.{Capability}
+use Rattle.fetch_lines.specs.declared.listings.reference.Ref.{Ref}
 use Rattle.fetch_conversation.specs.Conversation.{Conversation, ends, answer_in, map_refusal, told_as}
 use Rattle.fetch_conversation.specs.ConverseStage.{converse_stage, with_pack}
 use Rattle.fetch_conversation.specs.Conversing.{IsClear}

@@ -1,6 +1,6 @@
 -- The conversation of a fetch over a plan that was made in a turn.
 use Rattle.std.specs.Prelude.{◌≡◌, ◌⊎◌, ℕ, Bool, List, [], Option, Some, None}
-use Rattle.fetch_wire.specs.Talks.{Talk}
+use Rattle.fetch_lines.specs.Talks.{Talk}
 use Rattle.fetch_conversation.specs.Conversation.{Concludes}
 use Rattle.fetch_conversation.specs.ListStage.{ListedValue, shown, pending_of}
 use Rattle.fetch_remote.specs.Form.{Given}

@@ -30,12 +30,12 @@ use Rattle.fetch_refs.specs.declared.target.Target.TheVariants as targets
 use Rattle.fetch_refs.specs.Names.{Names}
 use Rattle.fetch_refs.specs.Targets.{seen}
 use Rattle.fetch_refs.specs.Peeled.{peeled}
-use Rattle.fetch_wire.specs.References.{source_target}
-use Rattle.fetch_wire.specs.declared.listings.mapping.Mapping.{Mapping}
-use Rattle.fetch_wire.specs.declared.listings.reference.Ref.{Ref}
-use Rattle.fetch_wire.specs.declared.listings.reference.Ref.TheVariants as remote
-use Rattle.fetch_wire.specs.declared.listings.reference.Source.{Source}
-use Rattle.fetch_wire.specs.declared.listings.reference.Source.TheVariants as sources
+use Rattle.fetch_lines.specs.References.{source_target}
+use Rattle.fetch_lines.specs.declared.listings.mapping.Mapping.{Mapping}
+use Rattle.fetch_lines.specs.declared.listings.reference.Ref.{Ref}
+use Rattle.fetch_lines.specs.declared.listings.reference.Ref.TheVariants as remote
+use Rattle.fetch_lines.specs.declared.listings.reference.Source.{Source}
+use Rattle.fetch_lines.specs.declared.listings.reference.Source.TheVariants as sources
 use Rattle.fetch_update.specs.declared.message.RefLogMessage.{RefLogMessage}
 use Rattle.fetch_update.specs.declared.message.RefLogMessage.TheVariants.{Prefixed, Override}
 use Rattle.fetch_update.specs.declared.mode.Mode.{Mode}

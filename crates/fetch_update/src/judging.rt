@@ -18,10 +18,10 @@ use crate::trees::directories_at;
 use crate::update::Error;
 use crate::verdict::Verdict;
 use crate::writing::{create, write};
+use fetch_lines::{Mapping, Ref, Source};
 use fetch_refs::{RefError, TargetRef};
 use fetch_specs::{Category, FullName, RefSpec, Tags};
 use fetch_store::{NoMemory, ObjectId, Objects, Text};
-use fetch_wire::{Mapping, Ref, Source};
 use std::alloc::Global;
 
 fn new_target_of(source: &Source) -> NewTarget<'_>

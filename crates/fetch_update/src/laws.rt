@@ -9,7 +9,7 @@ ghost use Rattle.fetch_specs.specs.Specs.{Spec};
 ghost use Rattle.fetch_refs.specs.Expectations.{refusal_of};
 ghost use Rattle.fetch_refs.specs.declared.edit.RefEdit.{RefEdit};
 ghost use Rattle.fetch_refs.specs.declared.target.Target.TheVariants.{Object};
-ghost use Rattle.fetch_wire.specs.declared.listings.mapping.Mapping.{Mapping};
+ghost use Rattle.fetch_lines.specs.declared.listings.mapping.Mapping.{Mapping};
 ghost use Rattle.fetch_update.specs.Accepted.{AcceptsExactly, GuessesExactly, RejectsExactly, HasOneEach, EditsCarryOut};
 ghost use Rattle.fetch_update.specs.Accepting.{is_accepting, Accepts, HasDryRow, IsTaken, Tells};
 ghost use Rattle.fetch_update.specs.Ahead.{is_ahead};
@@ -34,10 +34,10 @@ use crate::trees::index_of;
 use crate::update::{Error, Outcome};
 use crate::verdicts::verdicts;
 use crate::worktrees::Worktree;
+use fetch_lines::Mapping;
 use fetch_refs::Refs;
 use fetch_specs::{RefSpec, Tags};
 use fetch_store::Objects;
-use fetch_wire::Mapping;
 use std::alloc::Global;
 
 /// What becomes of each mapping by the update policy, and the edits that carry it out. Nothing is changed. In a dry run

@@ -8,9 +8,9 @@ ghost use Rattle.fetch_update.specs.Pairs.{left, shown, pairs_of};
 
 use crate::pairs::MappingUpdates;
 use crate::update::{Outcome, Update};
+use fetch_lines::Mapping;
 use fetch_refs::RefEdit;
 use fetch_specs::RefSpec;
-use fetch_wire::Mapping;
 
 impl Outcome {
     /// The updates beside the mappings that they were made of.

@@ -3,9 +3,9 @@
 ghost use Rattle.std.specs.Prelude.{◌<◌, length, All};
 
 use crate::update::Update;
+use fetch_lines::Mapping;
 use fetch_refs::RefEdit;
 use fetch_specs::RefSpec;
-use fetch_wire::Mapping;
 
 /// Updates in order, each beside its mapping, the refspec that made it, and its edit.
 #[derive(Drop)]

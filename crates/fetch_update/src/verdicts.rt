@@ -9,9 +9,9 @@ use crate::judge::Judge;
 use crate::judging::judge_mapping;
 use crate::update::Error;
 use crate::verdict::Verdict;
+use fetch_lines::Mapping;
 use fetch_specs::RefSpec;
 use fetch_store::{NoMemory, Objects};
-use fetch_wire::Mapping;
 
 /// The verdicts of the mappings, each beside its index, or the first refusal. A mapping whose
 /// refspec isn't found is passed over.

@@ -12,37 +12,37 @@ use Rattle.fetch_base.specs.Lines.{IsWithout}
 use Rattle.fetch_base.specs.declared.id.Kind.{Kind}
 use Rattle.fetch_base.specs.declared.id.ObjectId.{ObjectId}
 use Rattle.fetch_base.proofs.LineLaws.{splits}
-use Rattle.fetch_wire.specs.declared.replies.reply.ParsedReply.{ParsedReply}
-use Rattle.fetch_wire.specs.declared.replies.reply.ParsedReply.TheVariants as tolds
-use Rattle.fetch_wire.specs.declared.greetings.handshake.Capability.{Capability}
-use Rattle.fetch_wire.specs.declared.greetings.handshake.Handshake.{Handshake}
-use Rattle.fetch_wire.specs.declared.lines.line.Line.{Line}
-use Rattle.fetch_wire.specs.declared.lines.line.Line.TheVariants.{Flush}
-use Rattle.fetch_wire.specs.declared.replies.parser.Advertised.{Advertised}
-use Rattle.fetch_wire.specs.declared.replies.parser.Advertised.TheVariants as next
-use Rattle.fetch_wire.specs.declared.replies.parser.ReplyParser.{ReplyParser}
-use Rattle.fetch_wire.specs.declared.replies.parser.ReplyParser.TheVariants as reading
-use Rattle.fetch_wire.specs.declared.listings.reference.Ref.{Ref}
-use Rattle.fetch_wire.specs.AdvertisementLines.{joined}
+use Rattle.fetch_replies.specs.declared.replies.reply.ParsedReply.{ParsedReply}
+use Rattle.fetch_replies.specs.declared.replies.reply.ParsedReply.TheVariants as tolds
+use Rattle.fetch_lines.specs.declared.greetings.handshake.Capability.{Capability}
+use Rattle.fetch_lines.specs.declared.greetings.handshake.Handshake.{Handshake}
+use Rattle.fetch_lines.specs.declared.lines.line.Line.{Line}
+use Rattle.fetch_lines.specs.declared.lines.line.Line.TheVariants.{Flush}
+use Rattle.fetch_replies.specs.declared.replies.parser.Advertised.{Advertised}
+use Rattle.fetch_replies.specs.declared.replies.parser.Advertised.TheVariants as next
+use Rattle.fetch_replies.specs.declared.replies.parser.ReplyParser.{ReplyParser}
+use Rattle.fetch_replies.specs.declared.replies.parser.ReplyParser.TheVariants as reading
+use Rattle.fetch_lines.specs.declared.listings.reference.Ref.{Ref}
+use Rattle.fetch_lines.specs.AdvertisementLines.{joined}
 use Rattle.fetch_wire.specs.AdvertisementSpellings.{some_words, AreWords, IsNamed, ArePeels, IsAdvertised, AreAdvertised, AreReferences, AreShallow, IsAdvertisement}
-use Rattle.fetch_wire.specs.Advertisements.{is_version_1, with_word, with_words, handshake_1, id_and_name, before_peel, at_name, at_reference, at_advertised, first_named, at_first}
-use Rattle.fetch_wire.specs.Awaited.{step_of, at_greeting}
-use Rattle.fetch_wire.specs.FetchReplies.{shallow_in}
-use Rattle.fetch_wire.specs.Greetings.{is_version_2}
-use Rattle.fetch_wire.specs.LinesTold.{Tells}
-use Rattle.fetch_wire.specs.Listings.{is_listed}
-use Rattle.fetch_wire.specs.NamesTold.{AreNamedOnce}
-use Rattle.fetch_wire.specs.References.{name_in, peeled_in}
-use Rattle.fetch_wire.specs.ServerLines.{capability_text, IsTellable}
+use Rattle.fetch_replies.specs.Advertisements.{is_version_1, with_word, with_words, handshake_1, id_and_name, before_peel, at_name, at_reference, at_advertised, first_named, at_first}
+use Rattle.fetch_replies.specs.Awaited.{step_of, at_greeting}
+use Rattle.fetch_replies.specs.FetchReplies.{shallow_in}
+use Rattle.fetch_lines.specs.Greetings.{is_version_2}
+use Rattle.fetch_replies.specs.LinesTold.{Tells}
+use Rattle.fetch_replies.specs.Listings.{is_listed}
+use Rattle.fetch_replies.specs.NamesTold.{AreNamedOnce}
+use Rattle.fetch_lines.specs.References.{name_in, peeled_in}
+use Rattle.fetch_lines.specs.ServerLines.{capability_text, IsTellable}
 use Rattle.fetch_wire.specs.Spellings.{IsText, AreTexts, AreFlushed, Spells}
-use Rattle.fetch_wire.specs.Stepping.{goes, ends, breaks, or_breaks}
-use Rattle.fetch_wire.specs.Words.{words}
+use Rattle.fetch_replies.specs.Stepping.{goes, ends, breaks, or_breaks}
+use Rattle.fetch_lines.specs.Words.{words}
 use Rattle.fetch_wire.proofs.AdvertisementLines.{word_by, text_some, peel_read, unpeeled, not_peeled, own_told, peel_told, IsOpen, named_by, behind_ref, stays_open, closes, first_named_is, no_ref}
-use Rattle.fetch_wire.proofs.GreetingLines.{tells_capability, not_within}
-use Rattle.fetch_wire.proofs.IdTexts.{none_after}
+use Rattle.fetch_replies.proofs.GreetingLines.{tells_capability, not_within}
+use Rattle.fetch_replies.proofs.IdTexts.{none_after}
 use Rattle.fetch_wire.proofs.InWords.{by_spelled, hex_of, spelled_whole, comes_read}
-use Rattle.fetch_wire.proofs.ListingLines.{apart, words_spaced}
-use Rattle.fetch_wire.proofs.Moving.{first_tells}
+use Rattle.fetch_replies.proofs.ListingLines.{apart, words_spaced}
+use Rattle.fetch_replies.proofs.Moving.{first_tells}
 
 -- ---- capabilities
 

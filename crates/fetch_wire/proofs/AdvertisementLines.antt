@@ -14,38 +14,39 @@ use Rattle.fetch_base.specs.declared.id.Kind.{Kind}
 use Rattle.fetch_base.specs.declared.id.ObjectId.{ObjectId}
 use Rattle.fetch_base.proofs.LineLaws.{splits}
 use Rattle.fetch_base.proofs.Words.{both_without}
-use Rattle.fetch_wire.specs.declared.replies.reply.ReplyKind.TheVariants as awaits
-use Rattle.fetch_wire.specs.declared.replies.reply.ParsedReply.TheVariants as told
-use Rattle.fetch_wire.specs.declared.greetings.handshake.Capability.{Capability}
-use Rattle.fetch_wire.specs.declared.greetings.handshake.Handshake.{Handshake}
-use Rattle.fetch_wire.specs.declared.lines.line.Line.TheVariants.{Flush}
-use Rattle.fetch_wire.specs.declared.replies.parser.Advertised.{Advertised}
-use Rattle.fetch_wire.specs.declared.replies.parser.Advertised.TheVariants as next
-use Rattle.fetch_wire.specs.declared.replies.parser.ReplyParser.{ReplyParser}
-use Rattle.fetch_wire.specs.declared.replies.parser.ReplyParser.TheVariants as reading
-use Rattle.fetch_wire.specs.declared.listings.reference.Ref.{Ref}
-use Rattle.fetch_wire.specs.declared.listings.reference.Ref.TheVariants.{Direct, Symbolic, Peeled, Unborn}
-use Rattle.fetch_wire.specs.AdvertisementLines.{joined, named_text, peel_texts, advertised_texts, first_texts, advertisement_lines, IsOneWord, IsAdvertisable}
-use Rattle.fetch_wire.specs.Advertisements.{is_version_1, with_word, with_words, handshake_1, target_among, id_and_name, before_peel, is_no_name, is_null, advertised, peeled_to, with_peel, at_name, at_reference, at_advertised, first_named, at_first}
-use Rattle.fetch_wire.specs.Awaited.{step_of, start_of}
-use Rattle.fetch_wire.specs.FetchReplies.{shallow_in}
-use Rattle.fetch_wire.specs.Greetings.{capability_in, if_known, is_version_2}
-use Rattle.fetch_wire.specs.LinesTold.{Tells}
-use Rattle.fetch_wire.specs.Listings.{is_listed, ref_with}
-use Rattle.fetch_wire.specs.NamesTold.{AreNamedOnce}
-use Rattle.fetch_wire.specs.References.{name_in, id_in, peeled_in, target_in}
-use Rattle.fetch_wire.specs.RequestLines.{id_lines}
-use Rattle.fetch_wire.specs.Requests.{sent, text_line}
-use Rattle.fetch_wire.specs.ServerLines.{capability_text, with_value, IsIdOf, IsTellable}
-use Rattle.fetch_wire.specs.Stepping.{goes, ends, breaks, or_breaks}
-use Rattle.fetch_wire.specs.Texts.{is_error, without_lf}
-use Rattle.fetch_wire.specs.Words.{words}
-use Rattle.fetch_wire.proofs.GreetingLines.{tells_capability}
-use Rattle.fetch_wire.proofs.IdTexts.{id_read, hex_all, hex_begins, none_after}
-use Rattle.fetch_wire.proofs.ListingLines.{apart, words_spaced, no_error_by, id_whole}
-use Rattle.fetch_wire.proofs.Moving.{Moves, moves_tell, by_text_line, sent_on}
-use Rattle.fetch_wire.proofs.Peeling.{peel_front}
-use Rattle.fetch_wire.proofs.ReplyLines.{shallow_read, shallow_fails_not}
+use Rattle.fetch_replies.specs.declared.replies.reply.ReplyKind.TheVariants as awaits
+use Rattle.fetch_replies.specs.declared.replies.reply.ParsedReply.TheVariants as told
+use Rattle.fetch_lines.specs.declared.greetings.handshake.Capability.{Capability}
+use Rattle.fetch_lines.specs.declared.greetings.handshake.Handshake.{Handshake}
+use Rattle.fetch_lines.specs.declared.lines.line.Line.TheVariants.{Flush}
+use Rattle.fetch_replies.specs.declared.replies.parser.Advertised.{Advertised}
+use Rattle.fetch_replies.specs.declared.replies.parser.Advertised.TheVariants as next
+use Rattle.fetch_replies.specs.declared.replies.parser.ReplyParser.{ReplyParser}
+use Rattle.fetch_replies.specs.declared.replies.parser.ReplyParser.TheVariants as reading
+use Rattle.fetch_lines.specs.declared.listings.reference.Ref.{Ref}
+use Rattle.fetch_lines.specs.declared.listings.reference.Ref.TheVariants.{Direct, Symbolic, Peeled, Unborn}
+use Rattle.fetch_lines.specs.AdvertisementLines.{joined, named_text, peel_texts, advertised_texts, first_texts, advertisement_lines}
+use Rattle.fetch_wire.specs.Advertisable.{IsOneWord, IsAdvertisable}
+use Rattle.fetch_replies.specs.Advertisements.{is_version_1, with_word, with_words, handshake_1, target_among, id_and_name, before_peel, is_no_name, is_null, advertised, peeled_to, with_peel, at_name, at_reference, at_advertised, first_named, at_first}
+use Rattle.fetch_replies.specs.Awaited.{step_of, start_of}
+use Rattle.fetch_replies.specs.FetchReplies.{shallow_in}
+use Rattle.fetch_lines.specs.Greetings.{capability_in, if_known, is_version_2}
+use Rattle.fetch_replies.specs.LinesTold.{Tells}
+use Rattle.fetch_replies.specs.Listings.{is_listed, ref_with}
+use Rattle.fetch_replies.specs.NamesTold.{AreNamedOnce}
+use Rattle.fetch_lines.specs.References.{name_in, id_in, peeled_in, target_in}
+use Rattle.fetch_lines.specs.RequestLines.{id_lines}
+use Rattle.fetch_lines.specs.Requests.{sent, text_line}
+use Rattle.fetch_lines.specs.ServerLines.{capability_text, with_value, IsIdOf, IsTellable}
+use Rattle.fetch_replies.specs.Stepping.{goes, ends, breaks, or_breaks}
+use Rattle.fetch_lines.specs.Texts.{is_error, without_lf}
+use Rattle.fetch_lines.specs.Words.{words}
+use Rattle.fetch_replies.proofs.GreetingLines.{tells_capability}
+use Rattle.fetch_replies.proofs.IdTexts.{id_read, hex_all, hex_begins, none_after}
+use Rattle.fetch_replies.proofs.ListingLines.{apart, words_spaced, no_error_by, id_whole}
+use Rattle.fetch_replies.proofs.Moving.{Moves, moves_tell, by_text_line, sent_on}
+use Rattle.fetch_replies.proofs.Peeling.{peel_front}
+use Rattle.fetch_replies.proofs.ReplyLines.{shallow_read, shallow_fails_not}
 
 -- ---- capabilities
 

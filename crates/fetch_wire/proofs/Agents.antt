@@ -1,7 +1,7 @@
 -- `git/` stands before an agent once.
 use Rattle.std.proofs.Common.{◌≡◌, Bool, true, false, if◌then◌else◌, List, ℕ, ◌++◌, codes, nat_eq, refl}
 use Rattle.std.specs.List.{starts_with}
-use Rattle.fetch_wire.specs.Requests.{agent_text}
+use Rattle.fetch_lines.specs.Requests.{agent_text}
 
 by_test : (agent : List ℕ) (b : Bool) → starts_with nat_eq agent (codes "git/") ≡ b → agent_text (agent_text agent) ≡ agent_text agent
 unfolding agent_text

@@ -1,22 +1,22 @@
 -- A session takes bytes, and reads on.
 use Rattle.std.proofs.Common.{◌≡◌, ℕ, Bool, true, false, List, [], ◌++◌, Option, Some, None, Result, Ok, Err, refl, sym, ap, ◌∙◌, subst}
-use Rattle.fetch_wire.specs.declared.replies.reply.ReplyContext.{ReplyContext}
-use Rattle.fetch_wire.specs.declared.replies.reply.ReplyKind.TheVariants as awaits
-use Rattle.fetch_wire.specs.declared.replies.reply.ReplyError.{ReplyError}
-use Rattle.fetch_wire.specs.declared.replies.reply.ReplyError.TheVariants as faults
-use Rattle.fetch_wire.specs.declared.replies.reply.ParsedReply.{ParsedReply}
-use Rattle.fetch_wire.specs.declared.replies.reply.ParsedReply.TheVariants as told
-use Rattle.fetch_wire.specs.declared.error.WireError.{WireError}
-use Rattle.fetch_wire.specs.declared.error.WireError.TheVariants as errors
-use Rattle.fetch_wire.specs.declared.greetings.handshake.Handshake.{Handshake}
-use Rattle.fetch_wire.specs.declared.session.reply_buffer.FoundReply.{FoundReply}
-use Rattle.fetch_wire.specs.declared.requests.records.Request.{Request}
-use Rattle.fetch_wire.specs.Greetings.{offers}
-use Rattle.fetch_wire.specs.Intakes.{ReplyBuffer, told_with, awaiting, taking, Finds, ReadsOn}
-use Rattle.fetch_wire.specs.RequestLines.{request_lines}
-use Rattle.fetch_wire.specs.Requests.{listing_lines}
+use Rattle.fetch_replies.specs.declared.replies.reply.ReplyContext.{ReplyContext}
+use Rattle.fetch_replies.specs.declared.replies.reply.ReplyKind.TheVariants as awaits
+use Rattle.fetch_replies.specs.declared.replies.reply.ReplyError.{ReplyError}
+use Rattle.fetch_replies.specs.declared.replies.reply.ReplyError.TheVariants as faults
+use Rattle.fetch_replies.specs.declared.replies.reply.ParsedReply.{ParsedReply}
+use Rattle.fetch_replies.specs.declared.replies.reply.ParsedReply.TheVariants as told
+use Rattle.fetch_lines.specs.declared.error.WireError.{WireError}
+use Rattle.fetch_lines.specs.declared.error.WireError.TheVariants as errors
+use Rattle.fetch_lines.specs.declared.greetings.handshake.Handshake.{Handshake}
+use Rattle.fetch_replies.specs.declared.replies.reply_buffer.FoundReply.{FoundReply}
+use Rattle.fetch_lines.specs.declared.requests.records.Request.{Request}
+use Rattle.fetch_lines.specs.Greetings.{offers}
+use Rattle.fetch_replies.specs.Intakes.{ReplyBuffer, told_with, awaiting, taking, Finds, ReadsOn}
+use Rattle.fetch_lines.specs.RequestLines.{request_lines}
+use Rattle.fetch_lines.specs.Requests.{listing_lines}
 use Rattle.fetch_wire.specs.SessionStates.{SessionState, IsAlike, IsKept, lost, stored, Takes, after_told, read_one, rests, asks, asks_listing, keeps, listing_feature, fed, fed_by, read_on, requested, asked_by, refusal_of, if_told}
-use Rattle.fetch_wire.specs.Written.{lines_text, first_too_long}
+use Rattle.fetch_lines.specs.Written.{lines_text, first_too_long}
 
 pub same : (s : SessionState) → IsAlike s s
 same s = record { intake = record { bound = refl; told = λ more. refl; room = refl; behind = refl; resting = λ e. refl }; others = refl }

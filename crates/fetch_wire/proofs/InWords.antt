@@ -17,38 +17,40 @@ use Rattle.fetch_base.specs.declared.id.Kind.{Kind}
 use Rattle.fetch_base.specs.declared.id.ObjectId.{ObjectId}
 use Rattle.fetch_base.proofs.Words.{both_without, after_of}
 use Rattle.fetch_base.proofs.LineLaws.{splits}
-use Rattle.fetch_wire.specs.declared.replies.reply.ReplyContext.{ReplyContext}
-use Rattle.fetch_wire.specs.declared.replies.reply.ReplyKind.TheVariants.{Reply}
-use Rattle.fetch_wire.specs.declared.replies.reply.ParsedReply.{ParsedReply}
-use Rattle.fetch_wire.specs.declared.replies.reply.ParsedReply.TheVariants as tolds
-use Rattle.fetch_wire.specs.declared.greetings.handshake.Capability.{Capability}
-use Rattle.fetch_wire.specs.declared.greetings.handshake.Handshake.{Handshake}
-use Rattle.fetch_wire.specs.declared.lines.line.Line.{Line}
-use Rattle.fetch_wire.specs.declared.lines.line.Line.TheVariants.{Flush, Delim}
-use Rattle.fetch_wire.specs.declared.listings.reference.Ref.{Ref}
-use Rattle.fetch_wire.specs.declared.listings.reference.Ref.TheVariants.{Direct, Symbolic, Peeled, Unborn}
-use Rattle.fetch_wire.specs.declared.replies.parser.Part.TheVariants as parts
-use Rattle.fetch_wire.specs.declared.replies.parser.ReplyParser.{ReplyParser}
-use Rattle.fetch_wire.specs.declared.replies.parser.ReplyParser.TheVariants as reading
-use Rattle.fetch_wire.specs.declared.requests.records.FetchReply.{FetchReply}
-use Rattle.fetch_wire.specs.Awaited.{step_of, start_of, at_greeting, at_capability, at_listed}
-use Rattle.fetch_wire.specs.Bands.{Band, band_line, pieces_of, texts_of, behind, bands_tell}
-use Rattle.fetch_wire.specs.FetchReplies.{no_reply, is_acknowledgments, is_nak, is_ready, is_packfile, is_shallow_info, if_have, acknowledged_in, shallow_in, unshallow_in, at_packfile, at_rest, at_beginning, at_acknowledgment, at_change}
-use Rattle.fetch_wire.specs.Greetings.{handshake_of, is_version_2}
-use Rattle.fetch_wire.specs.KnownIds.{has_id, each_once}
-use Rattle.fetch_wire.specs.LinesTold.{Tells}
-use Rattle.fetch_wire.specs.Listings.{Attributes, no_attributes, with_attribute, with_attributes, with_target, told_by, with_peeled, ref_with, id_or_unborn, named_by, ref_in, is_listed, if_new}
-use Rattle.fetch_wire.specs.NamesTold.{AreNamedOnce}
-use Rattle.fetch_wire.specs.References.{name_in, id_in, peeled_in, target_in}
-use Rattle.fetch_wire.specs.ServerLines.{capability_text, IsTellable, spaced}
+use Rattle.fetch_replies.specs.declared.replies.reply.ReplyContext.{ReplyContext}
+use Rattle.fetch_replies.specs.declared.replies.reply.ReplyKind.TheVariants.{Reply}
+use Rattle.fetch_replies.specs.declared.replies.reply.ParsedReply.{ParsedReply}
+use Rattle.fetch_replies.specs.declared.replies.reply.ParsedReply.TheVariants as tolds
+use Rattle.fetch_lines.specs.declared.greetings.handshake.Capability.{Capability}
+use Rattle.fetch_lines.specs.declared.greetings.handshake.Handshake.{Handshake}
+use Rattle.fetch_lines.specs.declared.lines.line.Line.{Line}
+use Rattle.fetch_lines.specs.declared.lines.line.Line.TheVariants.{Flush, Delim}
+use Rattle.fetch_lines.specs.declared.listings.reference.Ref.{Ref}
+use Rattle.fetch_lines.specs.declared.listings.reference.Ref.TheVariants.{Direct, Symbolic, Peeled, Unborn}
+use Rattle.fetch_replies.specs.declared.replies.parser.Part.TheVariants as parts
+use Rattle.fetch_replies.specs.declared.replies.parser.ReplyParser.{ReplyParser}
+use Rattle.fetch_replies.specs.declared.replies.parser.ReplyParser.TheVariants as reading
+use Rattle.fetch_lines.specs.declared.requests.records.FetchReply.{FetchReply}
+use Rattle.fetch_replies.specs.Awaited.{step_of, start_of, at_greeting, at_capability, at_listed}
+use Rattle.fetch_lines.specs.Bands.{Band, band_line, pieces_of, texts_of}
+use Rattle.fetch_replies.specs.BandsTold.{behind, bands_tell}
+use Rattle.fetch_lines.specs.FetchRecords.{no_reply}
+use Rattle.fetch_replies.specs.FetchReplies.{is_acknowledgments, is_nak, is_ready, is_packfile, is_shallow_info, if_have, acknowledged_in, shallow_in, unshallow_in, at_packfile, at_rest, at_beginning, at_acknowledgment, at_change}
+use Rattle.fetch_lines.specs.Greetings.{handshake_of, is_version_2}
+use Rattle.fetch_lines.specs.KnownIds.{has_id, each_once}
+use Rattle.fetch_replies.specs.LinesTold.{Tells}
+use Rattle.fetch_replies.specs.Listings.{Attributes, no_attributes, with_attribute, with_attributes, with_target, told_by, with_peeled, ref_with, id_or_unborn, named_by, ref_in, is_listed, if_new}
+use Rattle.fetch_replies.specs.NamesTold.{AreNamedOnce}
+use Rattle.fetch_lines.specs.References.{name_in, id_in, peeled_in, target_in}
+use Rattle.fetch_lines.specs.ServerLines.{capability_text, IsTellable, spaced}
 use Rattle.fetch_wire.specs.Spellings.{IsText, AreTexts, AreFlushed, Spells, SpellsBorn, IsGreeting, Attribute, Target, Peels, Other, attribute_text, IsAttribute, last_target, last_peeled, IsRef, AreRefs, IsListing, Acknowledgment, Nak, Ack, acknowledgment_text, IsAcknowledgment, acknowledged_by, Move, Comes, Leaves, move_text, IsMove, coming, leaving, AreBands, IsPack, AreMoves, all_moves, pack_in, IsRest, AreAcknowledged, IsRound, IsReady, IsReplyTo, IsReply}
-use Rattle.fetch_wire.specs.Stepping.{Step, goes, ends, breaks, says, or_breaks}
-use Rattle.fetch_wire.specs.Steps.{by_line, error_text}
-use Rattle.fetch_wire.specs.Texts.{without_lf}
-use Rattle.fetch_wire.specs.Words.{words}
-use Rattle.fetch_wire.proofs.GreetingLines.{tells_capability}
-use Rattle.fetch_wire.proofs.ListingLines.{words_spaced, apart}
-use Rattle.fetch_wire.proofs.Moving.{Moves, moves_tell, moves_on, first_tells}
+use Rattle.fetch_replies.specs.Stepping.{Step, goes, ends, breaks, says, or_breaks}
+use Rattle.fetch_replies.specs.Steps.{by_line, error_text}
+use Rattle.fetch_lines.specs.Texts.{without_lf}
+use Rattle.fetch_lines.specs.Words.{words}
+use Rattle.fetch_replies.proofs.GreetingLines.{tells_capability}
+use Rattle.fetch_replies.proofs.ListingLines.{words_spaced, apart}
+use Rattle.fetch_replies.proofs.Moving.{Moves, moves_tell, moves_on, first_tells}
 
 -- ---- texts
 

@@ -3,31 +3,31 @@ use Rattle.std.proofs.Common.{◌≡◌, ℕ, zero, suc, ◌+◌, ◌*◌, ◌-�
 use Rattle.std.specs.Prelude.{max, nat_lt, if◌then◌else◌}
 use Rattle.std.proofs.lemmas.Bool.Decides.{nat_tests}
 use Rattle.std.proofs.lemmas.List.{append-nil}
-use Rattle.fetch_wire.specs.declared.greetings.handshake.Handshake.{Handshake}
-use Rattle.fetch_wire.specs.declared.lines.line.Line.{Line}
-use Rattle.fetch_wire.specs.declared.lines.section.LineError.{LineError}
-use Rattle.fetch_wire.specs.declared.lines.section.LineError.TheVariants as lines
-use Rattle.fetch_wire.specs.declared.replies.reply.ReplyKind.TheVariants as awaits
-use Rattle.fetch_wire.specs.declared.replies.reply.ReplyError.{ReplyError}
-use Rattle.fetch_wire.specs.declared.replies.reply.ReplyError.TheVariants as faults
-use Rattle.fetch_wire.specs.declared.replies.reply.ParsedReply.{ParsedReply}
-use Rattle.fetch_wire.specs.declared.replies.reply.ParsedReply.TheVariants as told
-use Rattle.fetch_wire.specs.declared.replies.parser.ReplyParser.{ReplyParser}
-use Rattle.fetch_wire.specs.declared.replies.parser.ReplyParser.TheVariants as reading
-use Rattle.fetch_wire.specs.Awaited.{replies_behind, step_of, told_at, told_from}
-use Rattle.fetch_wire.specs.Feeding.{room_at}
-use Rattle.fetch_wire.specs.Greetings.{offers}
-use Rattle.fetch_wire.specs.Intakes.{ReplyBuffer, room_in, told_with, taking, resting}
-use Rattle.fetch_wire.specs.Intakes as intakes
-use Rattle.fetch_wire.specs.LineLaws.{line_at-is, line_at-len, least}
-use Rattle.fetch_wire.specs.Lines.{number_in, is_no_line, line_counted, announced, line_at, line_len}
-use Rattle.fetch_wire.specs.Requests.{listing_lines}
+use Rattle.fetch_lines.specs.declared.greetings.handshake.Handshake.{Handshake}
+use Rattle.fetch_lines.specs.declared.lines.line.Line.{Line}
+use Rattle.fetch_lines.specs.declared.lines.section.LineError.{LineError}
+use Rattle.fetch_lines.specs.declared.lines.section.LineError.TheVariants as lines
+use Rattle.fetch_replies.specs.declared.replies.reply.ReplyKind.TheVariants as awaits
+use Rattle.fetch_replies.specs.declared.replies.reply.ReplyError.{ReplyError}
+use Rattle.fetch_replies.specs.declared.replies.reply.ReplyError.TheVariants as faults
+use Rattle.fetch_replies.specs.declared.replies.reply.ParsedReply.{ParsedReply}
+use Rattle.fetch_replies.specs.declared.replies.reply.ParsedReply.TheVariants as told
+use Rattle.fetch_replies.specs.declared.replies.parser.ReplyParser.{ReplyParser}
+use Rattle.fetch_replies.specs.declared.replies.parser.ReplyParser.TheVariants as reading
+use Rattle.fetch_replies.specs.Awaited.{replies_behind, step_of, told_at, told_from}
+use Rattle.fetch_lines.specs.Feeding.{room_at}
+use Rattle.fetch_lines.specs.Greetings.{offers}
+use Rattle.fetch_replies.specs.Intakes.{ReplyBuffer, room_in, told_with, taking, resting}
+use Rattle.fetch_replies.specs.Intakes as intakes
+use Rattle.fetch_lines.specs.LineLaws.{line_at-is, line_at-len, least}
+use Rattle.fetch_lines.specs.Lines.{number_in, is_no_line, line_counted, announced, line_at, line_len}
+use Rattle.fetch_lines.specs.Requests.{listing_lines}
 use Rattle.fetch_wire.specs.SessionStates.{SessionState, IsAlike, IsAwaiting, after_told, read_one, rests, asks, listing_by, listing_feature, fed}
-use Rattle.fetch_wire.specs.Stepping.{Step, goes, ends, breaks, says, after_step, after_line, read_within}
-use Rattle.fetch_wire.specs.Written.{first_too_long}
+use Rattle.fetch_replies.specs.Stepping.{Step, goes, ends, breaks, says, after_step, after_line, read_within}
+use Rattle.fetch_lines.specs.Written.{first_too_long}
 use Rattle.fetch_wire.proofs.Conversing.{fed_is}
 use Rattle.fetch_wire.proofs.StepKeeps.{OfStep, OfTold, within-keeps}
-use Rattle.fetch_wire.proofs.Staying.{IsBefore, Stays, stays}
+use Rattle.fetch_replies.proofs.Staying.{IsBefore, Stays, stays}
 
 -- ---- a reply that isn't whole is within its bound, but for the beginning of a line
 

@@ -6,36 +6,36 @@ use Rattle.std.specs.Option.{option_or}
 use Rattle.fetch_base.specs.Scan.{split_first}
 use Rattle.fetch_base.specs.declared.id.Kind.{Kind}
 use Rattle.fetch_base.specs.declared.id.ObjectId.{ObjectId}
-use Rattle.fetch_wire.specs.declared.replies.reply.ReplyContext.{ReplyContext}
-use Rattle.fetch_wire.specs.declared.replies.reply.ReplyKind.{ReplyKind}
-use Rattle.fetch_wire.specs.declared.replies.reply.ReplyKind.TheVariants as awaits
-use Rattle.fetch_wire.specs.declared.replies.reply.ReplyError.{ReplyError}
-use Rattle.fetch_wire.specs.declared.replies.reply.ParsedReply.{ParsedReply}
-use Rattle.fetch_wire.specs.declared.replies.reply.ParsedReply.TheVariants as told
-use Rattle.fetch_wire.specs.declared.greetings.handshake.Handshake.{Handshake}
-use Rattle.fetch_wire.specs.declared.lines.line.Line.{Line}
-use Rattle.fetch_wire.specs.declared.lines.line.Line.TheVariants as lines
-use Rattle.fetch_wire.specs.declared.replies.parser.Advertised.{Advertised}
-use Rattle.fetch_wire.specs.declared.replies.parser.Advertised.TheVariants as next
-use Rattle.fetch_wire.specs.declared.replies.parser.Part.{Part}
-use Rattle.fetch_wire.specs.declared.replies.parser.Part.TheVariants as parts
-use Rattle.fetch_wire.specs.declared.replies.parser.ReplyParser.{ReplyParser}
-use Rattle.fetch_wire.specs.declared.replies.parser.ReplyParser.TheVariants as reading
-use Rattle.fetch_wire.specs.declared.requests.records.FetchReply.{FetchReply}
-use Rattle.fetch_wire.specs.declared.listings.reference.Ref.{Ref}
-use Rattle.fetch_wire.specs.declared.listings.reference.Ref.TheVariants.{Direct, Symbolic, Peeled, Unborn}
-use Rattle.fetch_wire.specs.Advertisements.{is_version_1, at_first, at_advertised, at_reference, at_name, first_named, handshake_1, with_words, advertised, peeled_to, with_peel, before_peel, id_and_name, is_no_name, is_null}
-use Rattle.fetch_wire.specs.Awaited.{step_of, start_of, told_at, at_greeting, at_capability, at_listed}
-use Rattle.fetch_wire.specs.FetchReplies.{reply_step, at_beginning, at_rest, at_packfile, at_acknowledgment, at_change, at_band, behind_ready, with_bytes, acknowledged_in, shallow_in, unshallow_in, is_acknowledgments, is_nak, is_ready, is_packfile, is_shallow_info}
-use Rattle.fetch_wire.specs.Greetings.{is_version_2, if_known, capability_in, handshake_of}
-use Rattle.fetch_wire.specs.KnownIds.{each_once}
-use Rattle.fetch_wire.specs.Listings.{is_listed, if_new, ref_in}
-use Rattle.fetch_wire.specs.NamesTold.{AreNamedOnce, NamesOnce}
-use Rattle.fetch_wire.specs.References.{name_in}
-use Rattle.fetch_wire.specs.Stepping.{Step, goes, ends, breaks, says, or_breaks}
-use Rattle.fetch_wire.specs.Steps.{by_line, error_text}
-use Rattle.fetch_wire.specs.Texts.{without_lf, is_error}
-use Rattle.fetch_wire.specs.Words.{words}
+use Rattle.fetch_replies.specs.declared.replies.reply.ReplyContext.{ReplyContext}
+use Rattle.fetch_replies.specs.declared.replies.reply.ReplyKind.{ReplyKind}
+use Rattle.fetch_replies.specs.declared.replies.reply.ReplyKind.TheVariants as awaits
+use Rattle.fetch_replies.specs.declared.replies.reply.ReplyError.{ReplyError}
+use Rattle.fetch_replies.specs.declared.replies.reply.ParsedReply.{ParsedReply}
+use Rattle.fetch_replies.specs.declared.replies.reply.ParsedReply.TheVariants as told
+use Rattle.fetch_lines.specs.declared.greetings.handshake.Handshake.{Handshake}
+use Rattle.fetch_lines.specs.declared.lines.line.Line.{Line}
+use Rattle.fetch_lines.specs.declared.lines.line.Line.TheVariants as lines
+use Rattle.fetch_replies.specs.declared.replies.parser.Advertised.{Advertised}
+use Rattle.fetch_replies.specs.declared.replies.parser.Advertised.TheVariants as next
+use Rattle.fetch_replies.specs.declared.replies.parser.Part.{Part}
+use Rattle.fetch_replies.specs.declared.replies.parser.Part.TheVariants as parts
+use Rattle.fetch_replies.specs.declared.replies.parser.ReplyParser.{ReplyParser}
+use Rattle.fetch_replies.specs.declared.replies.parser.ReplyParser.TheVariants as reading
+use Rattle.fetch_lines.specs.declared.requests.records.FetchReply.{FetchReply}
+use Rattle.fetch_lines.specs.declared.listings.reference.Ref.{Ref}
+use Rattle.fetch_lines.specs.declared.listings.reference.Ref.TheVariants.{Direct, Symbolic, Peeled, Unborn}
+use Rattle.fetch_replies.specs.Advertisements.{is_version_1, at_first, at_advertised, at_reference, at_name, first_named, handshake_1, with_words, advertised, peeled_to, with_peel, before_peel, id_and_name, is_no_name, is_null}
+use Rattle.fetch_replies.specs.Awaited.{step_of, start_of, told_at, at_greeting, at_capability, at_listed}
+use Rattle.fetch_replies.specs.FetchReplies.{reply_step, at_beginning, at_rest, at_packfile, at_acknowledgment, at_change, at_band, behind_ready, with_bytes, acknowledged_in, shallow_in, unshallow_in, is_acknowledgments, is_nak, is_ready, is_packfile, is_shallow_info}
+use Rattle.fetch_lines.specs.Greetings.{is_version_2, if_known, capability_in, handshake_of}
+use Rattle.fetch_lines.specs.KnownIds.{each_once}
+use Rattle.fetch_replies.specs.Listings.{is_listed, if_new, ref_in}
+use Rattle.fetch_replies.specs.NamesTold.{AreNamedOnce, NamesOnce}
+use Rattle.fetch_lines.specs.References.{name_in}
+use Rattle.fetch_replies.specs.Stepping.{Step, goes, ends, breaks, says, or_breaks}
+use Rattle.fetch_replies.specs.Steps.{by_line, error_text}
+use Rattle.fetch_lines.specs.Texts.{without_lf, is_error}
+use Rattle.fetch_lines.specs.Words.{words}
 use Rattle.fetch_wire.proofs.StepKeeps.{OfStep, OfTold, within-keeps}
 
 -- ---- one name more

@@ -2,7 +2,7 @@
 use Rattle.std.proofs.Common.{◌≡◌, Bool, ℕ, None, ◌+◌, ◌-◌, ◌<◌, ◌≤◌, List, [], ◌∷◌, ◌++◌, length, get_or, take, drop, refl, sym, ap, ◌∙◌, arith, append_assoc, take-append-drop, length-drop}
 use Rattle.std.proofs.lemmas.List.{append_cancel_right, drop-drop, append-nil, drop_more, take_more, take_all, drop_all}
 use Rattle.std.specs.List.{concat}
-use Rattle.fetch_wire.specs.Talks.{Receive, Passes}
+use Rattle.fetch_lines.specs.Talks.{Receive, Passes}
 use Rattle.fetch_wire.specs.Scripts.{given_of, pieces_from, from_first, first_of, without}
 
 pub concat-append : (xs ys : List (List ℕ)) → concat (xs ++ ys) ≡ concat xs ++ concat ys

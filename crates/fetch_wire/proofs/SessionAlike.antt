@@ -1,17 +1,17 @@
 -- Sessions that are alike stay alike.
 use Rattle.std.proofs.Common.{◌≡◌, ℕ, Bool, true, false, List, [], ◌++◌, Option, Some, None, Result, Ok, Err, refl, sym, ap, ◌∙◌, subst, append_assoc, length-append, arith}
 use Rattle.std.specs.Prelude.{is_some}
-use Rattle.fetch_wire.specs.declared.replies.reply.ReplyError.{ReplyError}
-use Rattle.fetch_wire.specs.declared.replies.reply.ReplyError.TheVariants as faults
-use Rattle.fetch_wire.specs.declared.replies.reply.ParsedReply.{ParsedReply}
-use Rattle.fetch_wire.specs.declared.error.WireError.{WireError}
-use Rattle.fetch_wire.specs.declared.error.WireError.TheVariants as errors
-use Rattle.fetch_wire.specs.declared.replies.parser.ReplyParser.{ReplyParser}
-use Rattle.fetch_wire.specs.declared.requests.records.Request.{Request}
+use Rattle.fetch_replies.specs.declared.replies.reply.ReplyError.{ReplyError}
+use Rattle.fetch_replies.specs.declared.replies.reply.ReplyError.TheVariants as faults
+use Rattle.fetch_replies.specs.declared.replies.reply.ParsedReply.{ParsedReply}
+use Rattle.fetch_lines.specs.declared.error.WireError.{WireError}
+use Rattle.fetch_lines.specs.declared.error.WireError.TheVariants as errors
+use Rattle.fetch_replies.specs.declared.replies.parser.ReplyParser.{ReplyParser}
+use Rattle.fetch_lines.specs.declared.requests.records.Request.{Request}
 use Rattle.fetch_wire.specs.declared.session.turn.Turn.TheVariants as turns
-use Rattle.fetch_wire.specs.Awaited.{told_from}
-use Rattle.fetch_wire.specs.Intakes.{ReplyBuffer, told_with, taking}
-use Rattle.fetch_wire.specs.Intakes as intakes
+use Rattle.fetch_replies.specs.Awaited.{told_from}
+use Rattle.fetch_replies.specs.Intakes.{ReplyBuffer, told_with, taking}
+use Rattle.fetch_replies.specs.Intakes as intakes
 use Rattle.fetch_wire.specs.SessionStates.{SessionState, IsAlike, after_told, after_end, error_of, read_one, rests, asks, keeps, fed, ended, requested, is_all_sent, refusal_of, turn_by, turn_of}
 use Rattle.fetch_wire.proofs.Conversing.{same, fed_is}
 use Rattle.fetch_wire.proofs.SessionPieces.{stuck}

@@ -4,30 +4,30 @@ use Rattle.std.specs.Prelude.{⊤, if◌then◌else◌}
 use Rattle.std.specs.Option.{option_and_then}
 use Rattle.std.proofs.lemmas.List.{append-nil}
 use Rattle.fetch_base.specs.declared.id.Kind.{Kind}
-use Rattle.fetch_wire.specs.declared.replies.reply.ReplyError.{ReplyError}
-use Rattle.fetch_wire.specs.declared.replies.reply.ReplyError.TheVariants as faults
-use Rattle.fetch_wire.specs.declared.replies.reply.ParsedReply.{ParsedReply}
-use Rattle.fetch_wire.specs.declared.replies.reply.ParsedReply.TheVariants as told
-use Rattle.fetch_wire.specs.declared.error.WireError.{WireError}
-use Rattle.fetch_wire.specs.declared.greetings.handshake.Handshake.{Handshake}
-use Rattle.fetch_wire.specs.declared.lines.line.Line.{Line}
-use Rattle.fetch_wire.specs.declared.lines.line.Line.TheVariants as lines
-use Rattle.fetch_wire.specs.declared.replies.parser.ReplyParser.{ReplyParser}
-use Rattle.fetch_wire.specs.declared.replies.parser.ReplyParser.TheVariants as reading
-use Rattle.fetch_wire.specs.declared.listings.reference.Ref.{Ref}
-use Rattle.fetch_wire.specs.declared.lines.section.LineError.{LineError}
-use Rattle.fetch_wire.specs.Awaited.{step_of, told_from, at_listed}
-use Rattle.fetch_wire.specs.Intakes.{ReplyBuffer, told_with, resting, taking}
-use Rattle.fetch_wire.specs.Greetings.{offers}
-use Rattle.fetch_wire.specs.Lines.{line_at, line_len}
-use Rattle.fetch_wire.specs.Listings.{if_new, ref_in}
-use Rattle.fetch_wire.specs.Requests.{listing_lines}
+use Rattle.fetch_replies.specs.declared.replies.reply.ReplyError.{ReplyError}
+use Rattle.fetch_replies.specs.declared.replies.reply.ReplyError.TheVariants as faults
+use Rattle.fetch_replies.specs.declared.replies.reply.ParsedReply.{ParsedReply}
+use Rattle.fetch_replies.specs.declared.replies.reply.ParsedReply.TheVariants as told
+use Rattle.fetch_lines.specs.declared.error.WireError.{WireError}
+use Rattle.fetch_lines.specs.declared.greetings.handshake.Handshake.{Handshake}
+use Rattle.fetch_lines.specs.declared.lines.line.Line.{Line}
+use Rattle.fetch_lines.specs.declared.lines.line.Line.TheVariants as lines
+use Rattle.fetch_replies.specs.declared.replies.parser.ReplyParser.{ReplyParser}
+use Rattle.fetch_replies.specs.declared.replies.parser.ReplyParser.TheVariants as reading
+use Rattle.fetch_lines.specs.declared.listings.reference.Ref.{Ref}
+use Rattle.fetch_lines.specs.declared.lines.section.LineError.{LineError}
+use Rattle.fetch_replies.specs.Awaited.{step_of, told_from, at_listed}
+use Rattle.fetch_replies.specs.Intakes.{ReplyBuffer, told_with, resting, taking}
+use Rattle.fetch_lines.specs.Greetings.{offers}
+use Rattle.fetch_lines.specs.Lines.{line_at, line_len}
+use Rattle.fetch_replies.specs.Listings.{if_new, ref_in}
+use Rattle.fetch_lines.specs.Requests.{listing_lines}
 use Rattle.fetch_wire.specs.SessionStates.{SessionState, after_told, read_one, read_on, rests, asks, listing_by, listing_feature, fed, fed_by}
-use Rattle.fetch_wire.specs.StepLaws.{IsSettled, with_more, read_by-more}
-use Rattle.fetch_wire.specs.Stepping.{Step, goes, ends, breaks, says, or_breaks, after_step, after_line, read_within}
-use Rattle.fetch_wire.specs.Steps.{by_line, error_text}
-use Rattle.fetch_wire.specs.Texts.{without_lf, is_error}
-use Rattle.fetch_wire.specs.Written.{lines_text, first_too_long}
+use Rattle.fetch_replies.specs.StepLaws.{IsSettled, with_more, read_by-more}
+use Rattle.fetch_replies.specs.Stepping.{Step, goes, ends, breaks, says, or_breaks, after_step, after_line, read_within}
+use Rattle.fetch_replies.specs.Steps.{by_line, error_text}
+use Rattle.fetch_lines.specs.Texts.{without_lf, is_error}
+use Rattle.fetch_lines.specs.Written.{lines_text, first_too_long}
 use Rattle.fetch_wire.proofs.Conversing.{fed_is}
 
 -- ---- a listing tells no greeting

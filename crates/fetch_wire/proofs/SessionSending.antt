@@ -1,20 +1,20 @@
 -- What a session sends, and what it is fed meanwhile.
 use Rattle.std.proofs.Common.{◌≡◌, ℕ, ◌≤◌, Bool, true, false, List, [], ◌++◌, length, drop, Option, Some, None, Result, Ok, Err, refl, sym, ap, ◌∙◌}
 use Rattle.std.proofs.lemmas.List.{append-nil, drop-append-le}
-use Rattle.fetch_wire.specs.declared.replies.reply.ReplyError.{ReplyError}
-use Rattle.fetch_wire.specs.declared.replies.reply.ReplyError.TheVariants as faults
-use Rattle.fetch_wire.specs.declared.replies.reply.ParsedReply.{ParsedReply}
-use Rattle.fetch_wire.specs.declared.replies.reply.ParsedReply.TheVariants as told
-use Rattle.fetch_wire.specs.declared.replies.reply.ReplyKind.TheVariants as awaits
-use Rattle.fetch_wire.specs.declared.error.WireError.{WireError}
-use Rattle.fetch_wire.specs.declared.greetings.handshake.Handshake.{Handshake}
-use Rattle.fetch_wire.specs.declared.lines.line.Line.{Line}
-use Rattle.fetch_wire.specs.Greetings.{offers}
-use Rattle.fetch_wire.specs.Intakes.{told_with, resting, taking, awaiting}
-use Rattle.fetch_wire.specs.Requests.{listing_lines}
+use Rattle.fetch_replies.specs.declared.replies.reply.ReplyError.{ReplyError}
+use Rattle.fetch_replies.specs.declared.replies.reply.ReplyError.TheVariants as faults
+use Rattle.fetch_replies.specs.declared.replies.reply.ParsedReply.{ParsedReply}
+use Rattle.fetch_replies.specs.declared.replies.reply.ParsedReply.TheVariants as told
+use Rattle.fetch_replies.specs.declared.replies.reply.ReplyKind.TheVariants as awaits
+use Rattle.fetch_lines.specs.declared.error.WireError.{WireError}
+use Rattle.fetch_lines.specs.declared.greetings.handshake.Handshake.{Handshake}
+use Rattle.fetch_lines.specs.declared.lines.line.Line.{Line}
+use Rattle.fetch_lines.specs.Greetings.{offers}
+use Rattle.fetch_replies.specs.Intakes.{told_with, resting, taking, awaiting}
+use Rattle.fetch_lines.specs.Requests.{listing_lines}
 use Rattle.fetch_wire.specs.SessionStates.{SessionState, after_told, read_one, rests, asks, listing_by, listing_feature, fed}
-use Rattle.fetch_wire.specs.Talks.{IsFront}
-use Rattle.fetch_wire.specs.Written.{lines_text, first_too_long}
+use Rattle.fetch_lines.specs.Talks.{IsFront}
+use Rattle.fetch_lines.specs.Written.{lines_text, first_too_long}
 use Rattle.fetch_wire.proofs.Conversing.{fed_is}
 use Rattle.fetch_wire.proofs.SessionPieces.{stuck}
 

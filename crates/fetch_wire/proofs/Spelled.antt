@@ -11,28 +11,28 @@ use Rattle.fetch_base.specs.Lines.{IsWithout}
 use Rattle.fetch_base.specs.Scan.{split_first}
 use Rattle.fetch_base.specs.declared.id.ObjectId.{ObjectId}
 use Rattle.fetch_base.proofs.LineLaws.{splits}
-use Rattle.fetch_wire.specs.declared.replies.reply.ParsedReply.{ParsedReply}
-use Rattle.fetch_wire.specs.declared.replies.reply.ParsedReply.TheVariants as tolds
-use Rattle.fetch_wire.specs.declared.greetings.handshake.Capability.{Capability}
-use Rattle.fetch_wire.specs.declared.greetings.handshake.Handshake.{Handshake}
-use Rattle.fetch_wire.specs.declared.lines.line.Line.{Line}
-use Rattle.fetch_wire.specs.declared.lines.line.Line.TheVariants.{Payload, Flush, Delim, End}
-use Rattle.fetch_wire.specs.declared.replies.parser.Advertised.{Advertised}
-use Rattle.fetch_wire.specs.declared.replies.parser.Advertised.TheVariants as nexts
-use Rattle.fetch_wire.specs.declared.replies.parser.ReplyParser.{ReplyParser}
-use Rattle.fetch_wire.specs.declared.replies.parser.ReplyParser.TheVariants as reading
-use Rattle.fetch_wire.specs.declared.listings.reference.Ref.{Ref}
-use Rattle.fetch_wire.specs.Advertisements.{is_version_1, with_words, handshake_1, id_and_name, before_peel, is_no_name, is_null, advertised, with_peel, at_name, at_reference, at_advertised, first_named, at_first}
-use Rattle.fetch_wire.specs.Awaited.{step_of, at_capability, at_greeting}
-use Rattle.fetch_wire.specs.FetchReplies.{shallow_in}
-use Rattle.fetch_wire.specs.Greetings.{capability_in, key_and_value, if_key, if_known, is_known, handshake_of, is_version_2}
-use Rattle.fetch_wire.specs.LinesTold.{Tells}
-use Rattle.fetch_wire.specs.ServerLines.{with_value, capability_text, IsTellable}
+use Rattle.fetch_replies.specs.declared.replies.reply.ParsedReply.{ParsedReply}
+use Rattle.fetch_replies.specs.declared.replies.reply.ParsedReply.TheVariants as tolds
+use Rattle.fetch_lines.specs.declared.greetings.handshake.Capability.{Capability}
+use Rattle.fetch_lines.specs.declared.greetings.handshake.Handshake.{Handshake}
+use Rattle.fetch_lines.specs.declared.lines.line.Line.{Line}
+use Rattle.fetch_lines.specs.declared.lines.line.Line.TheVariants.{Payload, Flush, Delim, End}
+use Rattle.fetch_replies.specs.declared.replies.parser.Advertised.{Advertised}
+use Rattle.fetch_replies.specs.declared.replies.parser.Advertised.TheVariants as nexts
+use Rattle.fetch_replies.specs.declared.replies.parser.ReplyParser.{ReplyParser}
+use Rattle.fetch_replies.specs.declared.replies.parser.ReplyParser.TheVariants as reading
+use Rattle.fetch_lines.specs.declared.listings.reference.Ref.{Ref}
+use Rattle.fetch_replies.specs.Advertisements.{is_version_1, with_words, handshake_1, id_and_name, before_peel, is_no_name, is_null, advertised, with_peel, at_name, at_reference, at_advertised, first_named, at_first}
+use Rattle.fetch_replies.specs.Awaited.{step_of, at_capability, at_greeting}
+use Rattle.fetch_replies.specs.FetchReplies.{shallow_in}
+use Rattle.fetch_lines.specs.Greetings.{capability_in, key_and_value, if_key, if_known, is_known, handshake_of, is_version_2}
+use Rattle.fetch_replies.specs.LinesTold.{Tells}
+use Rattle.fetch_lines.specs.ServerLines.{with_value, capability_text, IsTellable}
 use Rattle.fetch_wire.specs.Spellings.{IsText, AreFlushed, IsGreeting}
-use Rattle.fetch_wire.specs.Stepping.{Step, goes, ends, breaks, says, or_breaks}
-use Rattle.fetch_wire.specs.Steps.{by_line, error_text}
-use Rattle.fetch_wire.specs.Texts.{is_error, without_lf}
-use Rattle.fetch_wire.specs.Words.{words}
+use Rattle.fetch_replies.specs.Stepping.{Step, goes, ends, breaks, says, or_breaks}
+use Rattle.fetch_replies.specs.Steps.{by_line, error_text}
+use Rattle.fetch_lines.specs.Texts.{is_error, without_lf}
+use Rattle.fetch_lines.specs.Words.{words}
 
 -- one step or another
 abbrev pub if_step : Bool → Step ReplyParser ParsedReply → Step ReplyParser ParsedReply → Step ReplyParser ParsedReply

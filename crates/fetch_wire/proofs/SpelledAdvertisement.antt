@@ -10,28 +10,28 @@ use Rattle.fetch_base.specs.declared.id.Kind.{Kind}
 use Rattle.fetch_base.specs.declared.id.ObjectId.{ObjectId}
 use Rattle.fetch_base.proofs.LineLaws.{splits}
 use Rattle.fetch_base.proofs.Words.{after_is}
-use Rattle.fetch_wire.specs.declared.replies.reply.ParsedReply.{ParsedReply}
-use Rattle.fetch_wire.specs.declared.replies.reply.ParsedReply.TheVariants as tolds
-use Rattle.fetch_wire.specs.declared.greetings.handshake.Capability.{Capability}
-use Rattle.fetch_wire.specs.declared.greetings.handshake.Handshake.{Handshake}
-use Rattle.fetch_wire.specs.declared.lines.line.Line.{Line}
-use Rattle.fetch_wire.specs.declared.lines.line.Line.TheVariants.{Flush}
-use Rattle.fetch_wire.specs.declared.replies.parser.Advertised.{Advertised}
-use Rattle.fetch_wire.specs.declared.replies.parser.Advertised.TheVariants as nexts
-use Rattle.fetch_wire.specs.declared.replies.parser.ReplyParser.{ReplyParser}
-use Rattle.fetch_wire.specs.declared.replies.parser.ReplyParser.TheVariants as reading
-use Rattle.fetch_wire.specs.declared.listings.reference.Ref.{Ref}
+use Rattle.fetch_replies.specs.declared.replies.reply.ParsedReply.{ParsedReply}
+use Rattle.fetch_replies.specs.declared.replies.reply.ParsedReply.TheVariants as tolds
+use Rattle.fetch_lines.specs.declared.greetings.handshake.Capability.{Capability}
+use Rattle.fetch_lines.specs.declared.greetings.handshake.Handshake.{Handshake}
+use Rattle.fetch_lines.specs.declared.lines.line.Line.{Line}
+use Rattle.fetch_lines.specs.declared.lines.line.Line.TheVariants.{Flush}
+use Rattle.fetch_replies.specs.declared.replies.parser.Advertised.{Advertised}
+use Rattle.fetch_replies.specs.declared.replies.parser.Advertised.TheVariants as nexts
+use Rattle.fetch_replies.specs.declared.replies.parser.ReplyParser.{ReplyParser}
+use Rattle.fetch_replies.specs.declared.replies.parser.ReplyParser.TheVariants as reading
+use Rattle.fetch_lines.specs.declared.listings.reference.Ref.{Ref}
 use Rattle.fetch_wire.specs.AdvertisementSpellings.{IsNamed, ArePeels, AreAdvertised, AreReferences, AreShallow, IsAdvertisement}
-use Rattle.fetch_wire.specs.Advertisements.{is_version_1, with_words, handshake_1, target_among, id_and_name, before_peel, is_no_name, is_null, advertised, peeled_to, with_peel, at_name, at_reference, at_advertised, first_named, at_first}
-use Rattle.fetch_wire.specs.Awaited.{step_of, at_greeting}
-use Rattle.fetch_wire.specs.FetchReplies.{shallow_in}
-use Rattle.fetch_wire.specs.Greetings.{is_version_2}
-use Rattle.fetch_wire.specs.LinesTold.{Tells}
-use Rattle.fetch_wire.specs.NamesTold.{AreNamedOnce}
-use Rattle.fetch_wire.specs.References.{name_in, id_in, peeled_in, target_in}
+use Rattle.fetch_replies.specs.Advertisements.{is_version_1, with_words, handshake_1, target_among, id_and_name, before_peel, is_no_name, is_null, advertised, peeled_to, with_peel, at_name, at_reference, at_advertised, first_named, at_first}
+use Rattle.fetch_replies.specs.Awaited.{step_of, at_greeting}
+use Rattle.fetch_replies.specs.FetchReplies.{shallow_in}
+use Rattle.fetch_lines.specs.Greetings.{is_version_2}
+use Rattle.fetch_replies.specs.LinesTold.{Tells}
+use Rattle.fetch_replies.specs.NamesTold.{AreNamedOnce}
+use Rattle.fetch_lines.specs.References.{name_in, id_in, peeled_in, target_in}
 use Rattle.fetch_wire.specs.Spellings.{IsText, AreFlushed, Spells}
-use Rattle.fetch_wire.specs.Stepping.{goes, ends, breaks, or_breaks}
-use Rattle.fetch_wire.specs.Words.{words}
+use Rattle.fetch_replies.specs.Stepping.{goes, ends, breaks, or_breaks}
+use Rattle.fetch_lines.specs.Words.{words}
 use Rattle.fetch_wire.proofs.Spelled.{if_step, text_goes, text_ends, flush_ends, never_ends, flushed_more, flushed_none, chosen, greeting_never_ends, no_capabilities}
 use Rattle.fetch_wire.proofs.SpelledNames.{exactly, offered, some_is, named_of, peel_is, fresh, peeled_so, last_peeled, Offered, IsFresh}
 

@@ -13,22 +13,22 @@ use Rattle.fetch_base.specs.declared.id.Kind.{Kind}
 use Rattle.fetch_base.specs.declared.id.ObjectId.{ObjectId}
 use Rattle.fetch_base.proofs.LineLaws.{splits}
 use Rattle.fetch_base.proofs.Words.{parts_without, after_is}
-use Rattle.fetch_wire.specs.declared.replies.reply.ParsedReply.{ParsedReply}
-use Rattle.fetch_wire.specs.declared.replies.reply.ParsedReply.TheVariants as tolds
-use Rattle.fetch_wire.specs.declared.lines.line.Line.{Line}
-use Rattle.fetch_wire.specs.declared.replies.parser.ReplyParser.{ReplyParser}
-use Rattle.fetch_wire.specs.declared.replies.parser.ReplyParser.TheVariants as reading
-use Rattle.fetch_wire.specs.declared.listings.reference.Ref.{Ref}
-use Rattle.fetch_wire.specs.declared.listings.reference.Ref.TheVariants.{Direct, Symbolic, Peeled, Unborn}
-use Rattle.fetch_wire.specs.Awaited.{step_of, at_listed}
-use Rattle.fetch_wire.specs.LinesTold.{Tells}
-use Rattle.fetch_wire.specs.Listings.{Attributes, no_attributes, with_target, with_peeled, told_by, with_attribute, with_attributes, ref_with, id_or_unborn, named_by, ref_in, is_listed, if_new}
-use Rattle.fetch_wire.specs.NamesTold.{AreNamedOnce}
-use Rattle.fetch_wire.specs.References.{name_in, id_in, peeled_in, target_in}
-use Rattle.fetch_wire.specs.ServerLines.{spaced, IsWord}
+use Rattle.fetch_replies.specs.declared.replies.reply.ParsedReply.{ParsedReply}
+use Rattle.fetch_replies.specs.declared.replies.reply.ParsedReply.TheVariants as tolds
+use Rattle.fetch_lines.specs.declared.lines.line.Line.{Line}
+use Rattle.fetch_replies.specs.declared.replies.parser.ReplyParser.{ReplyParser}
+use Rattle.fetch_replies.specs.declared.replies.parser.ReplyParser.TheVariants as reading
+use Rattle.fetch_lines.specs.declared.listings.reference.Ref.{Ref}
+use Rattle.fetch_lines.specs.declared.listings.reference.Ref.TheVariants.{Direct, Symbolic, Peeled, Unborn}
+use Rattle.fetch_replies.specs.Awaited.{step_of, at_listed}
+use Rattle.fetch_replies.specs.LinesTold.{Tells}
+use Rattle.fetch_replies.specs.Listings.{Attributes, no_attributes, with_target, with_peeled, told_by, with_attribute, with_attributes, ref_with, id_or_unborn, named_by, ref_in, is_listed, if_new}
+use Rattle.fetch_replies.specs.NamesTold.{AreNamedOnce}
+use Rattle.fetch_lines.specs.References.{name_in, id_in, peeled_in, target_in}
+use Rattle.fetch_lines.specs.ServerLines.{spaced, IsWord}
 use Rattle.fetch_wire.specs.Spellings.{AreFlushed, Attribute, Target, Peels, Other, attribute_text, IsAttribute, last_target, last_peeled, SpellsBorn, IsRef, AreRefs, IsListing}
-use Rattle.fetch_wire.specs.Stepping.{ends, breaks}
-use Rattle.fetch_wire.specs.Words.{words, before_first}
+use Rattle.fetch_replies.specs.Stepping.{ends, breaks}
+use Rattle.fetch_lines.specs.Words.{words, before_first}
 use Rattle.fetch_wire.proofs.Spelled.{text_goes, flush_ends, some_goes, never_ends, flushed_more, flushed_none}
 
 -- ---- words

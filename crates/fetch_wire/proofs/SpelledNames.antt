@@ -13,19 +13,19 @@ use Rattle.fetch_base.specs.Scan.{split_first}
 use Rattle.fetch_base.specs.declared.id.Kind.{Kind}
 use Rattle.fetch_base.specs.declared.id.ObjectId.{ObjectId}
 use Rattle.fetch_base.proofs.LineLaws.{splits}
-use Rattle.fetch_wire.specs.declared.greetings.handshake.Capability.{Capability}
-use Rattle.fetch_wire.specs.declared.greetings.handshake.Handshake.{Handshake}
-use Rattle.fetch_wire.specs.declared.listings.reference.Ref.{Ref}
-use Rattle.fetch_wire.specs.declared.listings.reference.Ref.TheVariants.{Direct, Symbolic, Peeled, Unborn}
+use Rattle.fetch_lines.specs.declared.greetings.handshake.Capability.{Capability}
+use Rattle.fetch_lines.specs.declared.greetings.handshake.Handshake.{Handshake}
+use Rattle.fetch_lines.specs.declared.listings.reference.Ref.{Ref}
+use Rattle.fetch_lines.specs.declared.listings.reference.Ref.TheVariants.{Direct, Symbolic, Peeled, Unborn}
 use Rattle.fetch_wire.specs.AdvertisementSpellings.{some_words, AreWords, IsNamed}
-use Rattle.fetch_wire.specs.Advertisements.{with_word, with_words, target_among, id_and_name, before_peel, advertised, peeled_to, with_peel}
-use Rattle.fetch_wire.specs.Greetings.{capability_in, if_known}
-use Rattle.fetch_wire.specs.Listings.{is_listed, ref_with}
-use Rattle.fetch_wire.specs.References.{name_in, id_in, peeled_in, target_in}
-use Rattle.fetch_wire.specs.ServerLines.{capability_text, IsTellable}
-use Rattle.fetch_wire.specs.Texts.{is_error}
-use Rattle.fetch_wire.specs.Words.{words}
-use Rattle.fetch_wire.proofs.Peeling.{peel_front}
+use Rattle.fetch_replies.specs.Advertisements.{with_word, with_words, target_among, id_and_name, before_peel, advertised, peeled_to, with_peel}
+use Rattle.fetch_lines.specs.Greetings.{capability_in, if_known}
+use Rattle.fetch_replies.specs.Listings.{is_listed, ref_with}
+use Rattle.fetch_lines.specs.References.{name_in, id_in, peeled_in, target_in}
+use Rattle.fetch_lines.specs.ServerLines.{capability_text, IsTellable}
+use Rattle.fetch_lines.specs.Texts.{is_error}
+use Rattle.fetch_lines.specs.Words.{words}
+use Rattle.fetch_replies.proofs.Peeling.{peel_front}
 use Rattle.fetch_wire.proofs.Spelled.{capability_told}
 use Rattle.fetch_wire.proofs.SpelledListing.{wording, made}
 

@@ -5,21 +5,22 @@ use Rattle.std.proofs.lemmas.Bool.{eqb-true}
 use Rattle.std.proofs.lemmas.List.{append-nil}
 use Rattle.std.proofs.lemmas.Slice.Eq.{bytes_eq-Decides}
 use Rattle.fetch_base.specs.declared.id.ObjectId.{ObjectId}
-use Rattle.fetch_wire.specs.declared.replies.reply.ReplyContext.{ReplyContext}
-use Rattle.fetch_wire.specs.declared.replies.reply.ParsedReply.{ParsedReply}
-use Rattle.fetch_wire.specs.declared.replies.reply.ParsedReply.TheVariants as tolds
-use Rattle.fetch_wire.specs.declared.lines.line.Line.{Line}
-use Rattle.fetch_wire.specs.declared.lines.line.Line.TheVariants.{Payload, Flush, Delim, End}
-use Rattle.fetch_wire.specs.declared.replies.parser.Part.TheVariants as parts
-use Rattle.fetch_wire.specs.declared.replies.parser.ReplyParser.{ReplyParser}
-use Rattle.fetch_wire.specs.declared.replies.parser.ReplyParser.TheVariants as reading
-use Rattle.fetch_wire.specs.declared.requests.records.FetchReply.{FetchReply}
-use Rattle.fetch_wire.specs.Awaited.{step_of}
-use Rattle.fetch_wire.specs.Bands.{Band, Piece, Progress, band_line, pieces_of, texts_of, behind}
-use Rattle.fetch_wire.specs.FetchReplies.{is_packfile, at_packfile, with_bytes}
-use Rattle.fetch_wire.specs.LinesTold.{Tells}
+use Rattle.fetch_replies.specs.declared.replies.reply.ReplyContext.{ReplyContext}
+use Rattle.fetch_replies.specs.declared.replies.reply.ParsedReply.{ParsedReply}
+use Rattle.fetch_replies.specs.declared.replies.reply.ParsedReply.TheVariants as tolds
+use Rattle.fetch_lines.specs.declared.lines.line.Line.{Line}
+use Rattle.fetch_lines.specs.declared.lines.line.Line.TheVariants.{Payload, Flush, Delim, End}
+use Rattle.fetch_replies.specs.declared.replies.parser.Part.TheVariants as parts
+use Rattle.fetch_replies.specs.declared.replies.parser.ReplyParser.{ReplyParser}
+use Rattle.fetch_replies.specs.declared.replies.parser.ReplyParser.TheVariants as reading
+use Rattle.fetch_lines.specs.declared.requests.records.FetchReply.{FetchReply}
+use Rattle.fetch_replies.specs.Awaited.{step_of}
+use Rattle.fetch_lines.specs.Bands.{Band, Piece, Progress, band_line, pieces_of, texts_of}
+use Rattle.fetch_replies.specs.BandsTold.{behind}
+use Rattle.fetch_replies.specs.FetchReplies.{is_packfile, at_packfile, with_bytes}
+use Rattle.fetch_replies.specs.LinesTold.{Tells}
 use Rattle.fetch_wire.specs.Spellings.{IsText, AreBands, IsPack, pack_in}
-use Rattle.fetch_wire.specs.Stepping.{goes, ends, breaks, says}
+use Rattle.fetch_replies.specs.Stepping.{goes, ends, breaks, says}
 use Rattle.fetch_wire.proofs.Spelled.{if_step, text_goes, text_ends}
 
 pub exactly : (a b : List ℕ) → bytes_eq a b ≡ true → a ≡ b

@@ -9,21 +9,22 @@ use Rattle.fetch_base.specs.Scan.{after}
 use Rattle.fetch_base.specs.declared.id.Kind.{Kind}
 use Rattle.fetch_base.specs.declared.id.ObjectId.{ObjectId}
 use Rattle.fetch_base.proofs.Words.{after_is}
-use Rattle.fetch_wire.specs.declared.replies.reply.ReplyContext.{ReplyContext}
-use Rattle.fetch_wire.specs.declared.replies.reply.ParsedReply.{ParsedReply}
-use Rattle.fetch_wire.specs.declared.replies.reply.ParsedReply.TheVariants as tolds
-use Rattle.fetch_wire.specs.declared.lines.line.Line.{Line}
-use Rattle.fetch_wire.specs.declared.lines.line.Line.TheVariants.{Payload, Flush, Delim, End}
-use Rattle.fetch_wire.specs.declared.replies.parser.Part.TheVariants as parts
-use Rattle.fetch_wire.specs.declared.replies.parser.ReplyParser.{ReplyParser}
-use Rattle.fetch_wire.specs.declared.replies.parser.ReplyParser.TheVariants as reading
-use Rattle.fetch_wire.specs.declared.requests.records.FetchReply.{FetchReply}
-use Rattle.fetch_wire.specs.Awaited.{step_of}
-use Rattle.fetch_wire.specs.FetchReplies.{no_reply, is_acknowledgments, is_nak, is_ready, is_shallow_info, if_have, acknowledged_in, shallow_in, unshallow_in, at_packfile, at_rest, at_beginning, at_acknowledgment, at_change}
-use Rattle.fetch_wire.specs.KnownIds.{has_id, each_once}
-use Rattle.fetch_wire.specs.LinesTold.{Tells}
+use Rattle.fetch_replies.specs.declared.replies.reply.ReplyContext.{ReplyContext}
+use Rattle.fetch_replies.specs.declared.replies.reply.ParsedReply.{ParsedReply}
+use Rattle.fetch_replies.specs.declared.replies.reply.ParsedReply.TheVariants as tolds
+use Rattle.fetch_lines.specs.declared.lines.line.Line.{Line}
+use Rattle.fetch_lines.specs.declared.lines.line.Line.TheVariants.{Payload, Flush, Delim, End}
+use Rattle.fetch_replies.specs.declared.replies.parser.Part.TheVariants as parts
+use Rattle.fetch_replies.specs.declared.replies.parser.ReplyParser.{ReplyParser}
+use Rattle.fetch_replies.specs.declared.replies.parser.ReplyParser.TheVariants as reading
+use Rattle.fetch_lines.specs.declared.requests.records.FetchReply.{FetchReply}
+use Rattle.fetch_replies.specs.Awaited.{step_of}
+use Rattle.fetch_lines.specs.FetchRecords.{no_reply}
+use Rattle.fetch_replies.specs.FetchReplies.{is_acknowledgments, is_nak, is_ready, is_shallow_info, if_have, acknowledged_in, shallow_in, unshallow_in, at_packfile, at_rest, at_beginning, at_acknowledgment, at_change}
+use Rattle.fetch_lines.specs.KnownIds.{has_id, each_once}
+use Rattle.fetch_replies.specs.LinesTold.{Tells}
 use Rattle.fetch_wire.specs.Spellings.{IsText, AreTexts, Spells, Acknowledgment, Nak, Ack, acknowledgment_text, IsAcknowledgment, acknowledged_by, Move, Comes, Leaves, move_text, IsMove, coming, leaving, IsRest, IsReplyTo, IsReply}
-use Rattle.fetch_wire.specs.Stepping.{Step, goes, ends, breaks, or_breaks}
+use Rattle.fetch_replies.specs.Stepping.{Step, goes, ends, breaks, or_breaks}
 use Rattle.fetch_wire.proofs.Spelled.{if_step, text_goes, text_ends, flush_ends, some_goes, never_ends}
 use Rattle.fetch_wire.proofs.SpelledPack.{exactly, bare, packing, packed, pack_ended, pack_went, Packed}
 

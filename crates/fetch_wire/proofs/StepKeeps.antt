@@ -1,11 +1,11 @@
 -- What holds while a text is read line by line, and of what it tells.
 use Rattle.std.proofs.Common.{ℕ, zero, suc, ◌+◌, List, Result, Ok, Err}
 use Rattle.std.specs.Prelude.{⊤}
-use Rattle.fetch_wire.specs.declared.replies.reply.ReplyError.{ReplyError}
-use Rattle.fetch_wire.specs.declared.lines.line.Line.{Line}
-use Rattle.fetch_wire.specs.declared.lines.section.LineError.{LineError}
-use Rattle.fetch_wire.specs.Lines.{line_at, line_len}
-use Rattle.fetch_wire.specs.Stepping.{Step, goes, ends, breaks, says, after_step, after_line, read_within}
+use Rattle.fetch_replies.specs.declared.replies.reply.ReplyError.{ReplyError}
+use Rattle.fetch_lines.specs.declared.lines.line.Line.{Line}
+use Rattle.fetch_lines.specs.declared.lines.section.LineError.{LineError}
+use Rattle.fetch_lines.specs.Lines.{line_at, line_len}
+use Rattle.fetch_replies.specs.Stepping.{Step, goes, ends, breaks, says, after_step, after_line, read_within}
 
 -- of what a line does
 abbrev pub OfStep : {S T : Type 0} → (S → Type 0) → (T → Type 0) → Step S T → Type 0

@@ -3,14 +3,14 @@ use Rattle.std.specs.Prelude.{◌≡◌, ◌≢◌, ◌⊎◌, ℕ, true, ⊤, L
 use Rattle.fetch_base.specs.Lines.{IsWithout}
 use Rattle.fetch_base.specs.declared.id.Kind.{Kind}
 use Rattle.fetch_base.specs.declared.id.ObjectId.{ObjectId}
-use Rattle.fetch_wire.specs.declared.greetings.handshake.Handshake.{Handshake}
-use Rattle.fetch_wire.specs.declared.lines.line.Line.{Line}
-use Rattle.fetch_wire.specs.declared.listings.reference.Ref.{Ref}
-use Rattle.fetch_wire.specs.AdvertisementLines.{joined}
-use Rattle.fetch_wire.specs.Advertisements.{handshake_1, before_peel, is_null, target_among}
-use Rattle.fetch_wire.specs.NamesTold.{AreNamedOnce}
-use Rattle.fetch_wire.specs.References.{name_in, id_in, peeled_in, target_in}
-use Rattle.fetch_wire.specs.ServerLines.{capability_text, IsTellable}
+use Rattle.fetch_lines.specs.declared.greetings.handshake.Handshake.{Handshake}
+use Rattle.fetch_lines.specs.declared.lines.line.Line.{Line}
+use Rattle.fetch_lines.specs.declared.listings.reference.Ref.{Ref}
+use Rattle.fetch_lines.specs.AdvertisementLines.{joined}
+use Rattle.fetch_replies.specs.Advertisements.{handshake_1, before_peel, is_null, target_among}
+use Rattle.fetch_replies.specs.NamesTold.{AreNamedOnce}
+use Rattle.fetch_lines.specs.References.{name_in, id_in, peeled_in, target_in}
+use Rattle.fetch_lines.specs.ServerLines.{capability_text, IsTellable}
 use Rattle.fetch_wire.specs.Spellings.{AreFlushed, Spells}
 
 -- the words that aren't empty

@@ -1,9 +1,9 @@
 -- What of a first line can't be sent.
 use Rattle.std.specs.Prelude.{◌≡◌, ℕ, Bool, ◌||◌, ◌==◌, List, [], ◌∷◌, ◌++◌, map, position, Option, Some, None, ⊤}
 use Rattle.std.specs.Option.{option_map, option_or}
-use Rattle.fetch_wire.specs.declared.error.WireError.{WireError}
-use Rattle.fetch_wire.specs.declared.error.WireError.TheVariants as errors
-use Rattle.fetch_wire.specs.Requests.{agent_text}
+use Rattle.fetch_lines.specs.declared.error.WireError.{WireError}
+use Rattle.fetch_lines.specs.declared.error.WireError.TheVariants as errors
+use Rattle.fetch_lines.specs.Requests.{agent_text}
 
 -- NUL and LF divide what is sent
 abbrev pub divides : ℕ → Bool

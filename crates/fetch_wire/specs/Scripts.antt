@@ -3,9 +3,9 @@ use Rattle.std.specs.Prelude.{ℕ, ◌+◌, ◌-◌, ◌^◌, ◌<◌, List, ◌
 use Rattle.std.specs.Prelude.{Result, Ok, Err}
 use Rattle.std.specs.List.{concat}
 use Rattle.fetch_base.specs.Calls.{CallList, one_more}
-use Rattle.fetch_wire.specs.Talks.{Talk, Receive}
-use Rattle.fetch_wire.specs.declared.session.peer.SendFault.{SendFault}
-use Rattle.fetch_wire.specs.declared.session.peer.SendFault.TheVariants as sending
+use Rattle.fetch_lines.specs.Talks.{Talk, Receive}
+use Rattle.fetch_lines.specs.declared.peer.SendFault.{SendFault}
+use Rattle.fetch_lines.specs.declared.peer.SendFault.TheVariants as sending
 
 -- a scripted peer: what it heard and gave, the pieces that it has still to give, its receives, the calls that fail, and
 -- how many failed

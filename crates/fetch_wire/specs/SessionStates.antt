@@ -4,31 +4,31 @@ use Rattle.std.specs.Prelude.{length, ◌==◌, ◌||◌, ⊤}
 use Rattle.std.specs.Option.{option_and_then}
 use Rattle.fetch_base.specs.declared.id.Kind.{Kind}
 use Rattle.fetch_base.specs.declared.id.Kind.TheVariants.{Sha1}
-use Rattle.fetch_wire.specs.declared.replies.reply.ReplyContext.{ReplyContext}
-use Rattle.fetch_wire.specs.declared.replies.reply.ReplyKind.TheVariants as awaits
-use Rattle.fetch_wire.specs.declared.replies.reply.ReplyError.{ReplyError}
-use Rattle.fetch_wire.specs.declared.replies.reply.ReplyError.TheVariants as faults
-use Rattle.fetch_wire.specs.declared.replies.reply.ParsedReply.{ParsedReply}
-use Rattle.fetch_wire.specs.declared.replies.reply.ParsedReply.TheVariants as told
-use Rattle.fetch_wire.specs.declared.error.WireError.{WireError}
-use Rattle.fetch_wire.specs.declared.error.WireError.TheVariants as errors
-use Rattle.fetch_wire.specs.declared.greetings.handshake.Handshake.{Handshake}
-use Rattle.fetch_wire.specs.declared.session.reply_buffer.FoundReply.{FoundReply}
-use Rattle.fetch_wire.specs.declared.session.reply_buffer.FoundReply.TheVariants as found
-use Rattle.fetch_wire.specs.declared.lines.line.Line.{Line}
-use Rattle.fetch_wire.specs.declared.requests.records.FetchReply.{FetchReply}
-use Rattle.fetch_wire.specs.declared.requests.records.Request.{Request}
-use Rattle.fetch_wire.specs.declared.listings.reference.Ref.{Ref}
-use Rattle.fetch_wire.specs.declared.replies.parser.ReplyParser.{ReplyParser}
+use Rattle.fetch_replies.specs.declared.replies.reply.ReplyContext.{ReplyContext}
+use Rattle.fetch_replies.specs.declared.replies.reply.ReplyKind.TheVariants as awaits
+use Rattle.fetch_replies.specs.declared.replies.reply.ReplyError.{ReplyError}
+use Rattle.fetch_replies.specs.declared.replies.reply.ReplyError.TheVariants as faults
+use Rattle.fetch_replies.specs.declared.replies.reply.ParsedReply.{ParsedReply}
+use Rattle.fetch_replies.specs.declared.replies.reply.ParsedReply.TheVariants as told
+use Rattle.fetch_lines.specs.declared.error.WireError.{WireError}
+use Rattle.fetch_lines.specs.declared.error.WireError.TheVariants as errors
+use Rattle.fetch_lines.specs.declared.greetings.handshake.Handshake.{Handshake}
+use Rattle.fetch_replies.specs.declared.replies.reply_buffer.FoundReply.{FoundReply}
+use Rattle.fetch_replies.specs.declared.replies.reply_buffer.FoundReply.TheVariants as found
+use Rattle.fetch_lines.specs.declared.lines.line.Line.{Line}
+use Rattle.fetch_lines.specs.declared.requests.records.FetchReply.{FetchReply}
+use Rattle.fetch_lines.specs.declared.requests.records.Request.{Request}
+use Rattle.fetch_lines.specs.declared.listings.reference.Ref.{Ref}
+use Rattle.fetch_replies.specs.declared.replies.parser.ReplyParser.{ReplyParser}
 use Rattle.fetch_wire.specs.declared.session.turn.Turn.{Turn}
 use Rattle.fetch_wire.specs.declared.session.turn.Turn.TheVariants as turns
-use Rattle.fetch_wire.specs.Awaited.{start_of, progress_in}
-use Rattle.fetch_wire.specs.Greetings.{offers}
-use Rattle.fetch_wire.specs.Intakes.{ReplyBuffer, told_with, resting, awaiting, taking}
-use Rattle.fetch_wire.specs.Intakes as intakes
-use Rattle.fetch_wire.specs.RequestLines.{request_lines}
-use Rattle.fetch_wire.specs.Requests.{listing_lines}
-use Rattle.fetch_wire.specs.Written.{lines_text, first_too_long}
+use Rattle.fetch_replies.specs.Awaited.{start_of, progress_in}
+use Rattle.fetch_lines.specs.Greetings.{offers}
+use Rattle.fetch_replies.specs.Intakes.{ReplyBuffer, told_with, resting, awaiting, taking}
+use Rattle.fetch_replies.specs.Intakes as intakes
+use Rattle.fetch_lines.specs.RequestLines.{request_lines}
+use Rattle.fetch_lines.specs.Requests.{listing_lines}
+use Rattle.fetch_lines.specs.Written.{lines_text, first_too_long}
 
 -- A session: what its listing request is made of, what is to be sent, and what came and wasn't read yet, with the reply
 -- that is awaited. The records are those of the replies that were read whole. `trouble` is why it can't go on, and

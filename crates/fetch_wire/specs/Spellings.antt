@@ -9,20 +9,20 @@ use Rattle.fetch_base.specs.Lines.{IsWithout}
 use Rattle.fetch_base.specs.Scan.{after}
 use Rattle.fetch_base.specs.declared.id.Kind.{Kind}
 use Rattle.fetch_base.specs.declared.id.ObjectId.{ObjectId}
-use Rattle.fetch_wire.specs.declared.replies.reply.ReplyContext.{ReplyContext}
-use Rattle.fetch_wire.specs.declared.greetings.handshake.Handshake.{Handshake}
-use Rattle.fetch_wire.specs.declared.lines.line.Line.{Line}
-use Rattle.fetch_wire.specs.declared.lines.line.Line.TheVariants.{Payload, Flush, Delim}
-use Rattle.fetch_wire.specs.declared.requests.records.FetchReply.{FetchReply}
-use Rattle.fetch_wire.specs.declared.listings.reference.Ref.{Ref}
-use Rattle.fetch_wire.specs.Bands.{Band, band_line, pieces_of, texts_of}
-use Rattle.fetch_wire.specs.FetchReplies.{no_reply}
-use Rattle.fetch_wire.specs.KnownIds.{has_id, each_once}
-use Rattle.fetch_wire.specs.Greetings.{handshake_of}
-use Rattle.fetch_wire.specs.NamesTold.{AreNamedOnce}
-use Rattle.fetch_wire.specs.References.{name_in, id_in, peeled_in, target_in}
-use Rattle.fetch_wire.specs.ServerLines.{capability_text, IsTellable, spaced, IsWord}
-use Rattle.fetch_wire.specs.Texts.{is_error, without_lf}
+use Rattle.fetch_replies.specs.declared.replies.reply.ReplyContext.{ReplyContext}
+use Rattle.fetch_lines.specs.declared.greetings.handshake.Handshake.{Handshake}
+use Rattle.fetch_lines.specs.declared.lines.line.Line.{Line}
+use Rattle.fetch_lines.specs.declared.lines.line.Line.TheVariants.{Payload, Flush, Delim}
+use Rattle.fetch_lines.specs.declared.requests.records.FetchReply.{FetchReply}
+use Rattle.fetch_lines.specs.declared.listings.reference.Ref.{Ref}
+use Rattle.fetch_lines.specs.Bands.{Band, band_line, pieces_of, texts_of}
+use Rattle.fetch_lines.specs.FetchRecords.{no_reply}
+use Rattle.fetch_lines.specs.KnownIds.{has_id, each_once}
+use Rattle.fetch_lines.specs.Greetings.{handshake_of}
+use Rattle.fetch_replies.specs.NamesTold.{AreNamedOnce}
+use Rattle.fetch_lines.specs.References.{name_in, id_in, peeled_in, target_in}
+use Rattle.fetch_lines.specs.ServerLines.{capability_text, IsTellable, spaced, IsWord}
+use Rattle.fetch_lines.specs.Texts.{is_error, without_lf}
 
 -- ---- texts and ids
 

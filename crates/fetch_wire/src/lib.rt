@@ -1,40 +1,19 @@
-//! What passes between a fetch and its peer: lines, replies, requests, and the records that they make.
+//! The session of a fetch with its peer, and the laws of lines, replies and sessions.
 #![tactic(auto)]
 
-mod cloning;
-mod error;
-mod greetings;
 pub mod laws;
-mod lines;
-mod listings;
-mod replies;
-mod requests;
-mod server;
 mod session;
 
-pub use error::WireError;
-pub use greetings::handshake::{Capability, Handshake, Version};
-pub use lines::cutting::in_pieces;
-pub use lines::line::{Line, LineRef};
-pub use lines::reader::{LineReader, Need};
-pub use lines::section::{LineError, line_in};
-pub use lines::write::{length_digits, write_line, write_lines};
-pub use listings::listing::make_ref;
-pub use listings::mapping::{Mapping, RefMap, SpecIndex};
-pub use listings::reference::{Ref, Source};
-pub use replies::bound::ReplyBound;
-pub use replies::haves::{Haves, each_once};
-pub use replies::reply::{ParsedReply, ReplyContext, ReplyError, ReplyKind};
-pub use replies::saying::without_line_feed;
-pub use requests::records::{FetchReply, Request};
-pub use requests::request_parts::{
-    agent_text, append_head, append_when, first_line, joined, listing_request,
+pub use fetch_lines::{
+    Capability, FetchReply, Handshake, Interrupt, Line, LineError, LineReader, LineRef, Mapping,
+    Need, Peer, Ref, RefMap, ReplyBound, Request, SendFault, Source, SpecIndex, Version, WireError,
+    advertisement_lines, agent_text, append_head, append_when, first_line, greeting_lines,
+    in_pieces, joined, last_lines, length_digits, line_in, listing_lines, listing_request,
+    ready_lines, round_lines, without_line_feed, write_line, write_lines,
 };
-pub use server::advertising::advertisement_lines;
-pub use server::reply_lines::{last_lines, ready_lines};
-pub use server::server_lines::{greeting_lines, listing_lines, round_lines};
+pub use fetch_replies::{
+    Haves, ParsedReply, ReplyContext, ReplyError, ReplyKind, ReplyReader, each_once, make_ref,
+};
 pub use session::conversation::Session;
-pub use session::peer::{Interrupt, Peer, SendFault};
-pub use session::reply_reader::ReplyReader;
 pub use session::scripted::{ScriptedInterrupt, ScriptedPeer};
 pub use session::turn::Turn;

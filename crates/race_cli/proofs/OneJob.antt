@@ -1,8 +1,8 @@
 -- A scene is the scene of a race of one job.
 use Rattle.std.proofs.Common.{◌≡◌, ℕ, suc, Bool, true, false, List, [], ◌∷◌, length, Option, Some, None, Result, Ok, Err, refl, sym, ap, ◌∙◌}
 use Rattle.std.specs.Prelude.{nat_lt, is_some, if◌then◌else◌}
-use Rattle.fetch_wire.specs.declared.lines.line.Line.{Line}
-use Rattle.fetch_wire.specs.declared.lines.line.Line.TheVariants.{Payload, Flush, Delim, End}
+use Rattle.fetch_lines.specs.declared.lines.line.Line.{Line}
+use Rattle.fetch_lines.specs.declared.lines.line.Line.TheVariants.{Payload, Flush, Delim, End}
 use Rattle.fetch_scene.specs.Gives.{◌>>=◌}
 use Rattle.fetch_scene.specs.Scene.{local_of, objects_of, remote_of, payloads_of, end_of, pieces_of, talk_of, scene_with, remote_in, scene_in, scene_of, limit}
 use Rattle.fetch_scene.specs.SceneLines.{Placed, Lines, flushes, delimits, next, taken_or_left, lines_of}

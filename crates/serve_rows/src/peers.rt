@@ -1,9 +1,9 @@
 //! A server as a peer.
 
 use crate::giving::say_given;
+use fetch_lines::{Peer, SendFault};
 use fetch_serve::ServerPeer;
 use fetch_store::NoMemory;
-use fetch_wire::{Peer, SendFault};
 use rows::say;
 use std::alloc::Global;
 

@@ -2,7 +2,7 @@
 
 ghost use Rattle.std.specs.Prelude.{◌≡◌, ◌<◌, ◌+◌, ◌≤◌, ◌++◌, length, drop, OnOk, IfSome};
 ghost use Rattle.std.specs.Option.{option_map};
-ghost use Rattle.fetch_wire.specs.LineViews.{line_of};
+ghost use Rattle.fetch_lines.specs.LineViews.{line_of};
 ghost use Rattle.fetch_cli.specs.Heard.{lines_heard};
 ghost use Rattle.fetch_cli.specs.Report.{sent_lines};
 ghost use Rattle.fetch_scene.specs.SceneLines.{line_found};

@@ -2,7 +2,7 @@
 
 ghost use Rattle.std.specs.Prelude.{◌≡◌, ◌<◌, ◌++◌, OnOk};
 ghost use Rattle.std.specs.List.{flat_map};
-ghost use Rattle.fetch_wire.specs.LineViews.{line_of};
+ghost use Rattle.fetch_lines.specs.LineViews.{line_of};
 ghost use Rattle.fetch_refs.specs.Targets.{seen};
 ghost use Rattle.fetch_cli.specs.ReportLines as spec;
 

@@ -1,7 +1,7 @@
 //! What a report tells of a mapping.
 
 ghost use Rattle.std.specs.Prelude.{◌≡◌, ◌++◌, OnOk};
-ghost use Rattle.fetch_wire.specs.References.{name_in};
+ghost use Rattle.fetch_lines.specs.References.{name_in};
 ghost use Rattle.fetch_update.specs.Modes.{mode_text};
 ghost use Rattle.fetch_cli.specs.MapLines as spec;
 

@@ -1,7 +1,7 @@
 //! What a clone listed is fetched.
 
 ghost use Rattle.std.specs.Prelude.{◌≡◌, Option, IfOk, IfErr, OnOk};
-ghost use Rattle.fetch_wire.specs.Talks.{Talk};
+ghost use Rattle.fetch_lines.specs.Talks.{Talk};
 ghost use Rattle.fetch_remote.specs.Repositories.{state_of, setup_of};
 ghost use Rattle.fetch_clone.specs.Counted.{IsCounted, Later, peer_meters, tree_meters};
 ghost use Rattle.fetch_clone.specs.Heeded.{IsHeededOver};

@@ -1,7 +1,7 @@
 //! What a peer listed is fetched from it, and the peer is taken back.
 
 ghost use Rattle.std.specs.Prelude.{◌≡◌, ◌+◌, ◌<◌, Option, IfOk, IfErr};
-ghost use Rattle.fetch_wire.specs.Talks.{Talk};
+ghost use Rattle.fetch_lines.specs.Talks.{Talk};
 ghost use Rattle.fetch_remote.specs.Repositories.{setup_of};
 ghost use Rattle.fetch_clone.specs.Counted.{BlamesLent, counts_by};
 ghost use Rattle.fetch_clone.specs.Heeded.{IsHeededOver};

@@ -1,7 +1,7 @@
 //! A fetch that is prepared.
 
 ghost use Rattle.std.specs.Prelude.{◌≡◌, true, Option, Some, IfOk, IfErr};
-ghost use Rattle.fetch_wire.specs.Talks.{Talk};
+ghost use Rattle.fetch_lines.specs.Talks.{Talk};
 ghost use Rattle.fetch_conversation.specs.Errors.{is_stopped, is_client};
 ghost use Rattle.fetch_conversation.specs.Receiving.{last_question};
 ghost use Rattle.fetch_remote.specs.Errors.{receiving, is_free};

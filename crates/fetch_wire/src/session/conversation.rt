@@ -1,19 +1,15 @@
 //! A conversation with a peer, driven from outside: bytes are sent and fed by the caller, in any pieces.
 
-use crate::cloning::copy_slice;
-use crate::error::WireError;
-use crate::greetings::handshake::Handshake;
-use crate::greetings::parameters::first_bad;
-use crate::lines::write::{write_line, write_lines};
-use crate::listings::reference::Ref;
-use crate::replies::bound::ReplyBound;
-use crate::replies::haves::Haves;
-use crate::replies::reply::{ParsedReply, ReplyContext, ReplyError, ReplyKind};
-use crate::requests::records::{FetchReply, Request};
-use crate::requests::request_parts::{first_line, listing_request};
-use crate::session::reply_buffer::{FoundReply, ReplyBuffer};
+use crate::session::parameters::first_bad;
 use crate::session::turn::Turn;
 use fetch_base::{Kind, List, NoMemory, Text, TryClone};
+use fetch_lines::{
+    FetchReply, Handshake, Ref, ReplyBound, Request, WireError, first_line, listing_request,
+    write_line, write_lines,
+};
+use fetch_replies::{
+    FoundReply, Haves, ParsedReply, ReplyBuffer, ReplyContext, ReplyError, ReplyKind, copy_slice,
+};
 use std::alloc::Global;
 use std::marker::Model;
 
@@ -58,17 +54,17 @@ impl Session {
     ghost use Rattle.std.specs.Prelude.{OnOk, OnErr, IsErr};
     ghost use Rattle.std.specs.Option.{option_copied};
     ghost use Rattle.fetch_base.specs.Answers.{RefusesUnless};
-    ghost use Rattle.fetch_wire.specs.declared.replies.reply.ReplyKind.TheVariants as awaits;
-    ghost use Rattle.fetch_wire.specs.declared.replies.reply.ParsedReply.TheVariants as told;
-    ghost use Rattle.fetch_wire.specs.Intakes as intakes;
-    ghost use Rattle.fetch_wire.specs.declared.error.WireError.TheVariants as errors;
+    ghost use Rattle.fetch_replies.specs.declared.replies.reply.ReplyKind.TheVariants as awaits;
+    ghost use Rattle.fetch_replies.specs.declared.replies.reply.ParsedReply.TheVariants as told;
+    ghost use Rattle.fetch_replies.specs.Intakes as intakes;
+    ghost use Rattle.fetch_lines.specs.declared.error.WireError.TheVariants as errors;
     ghost use Rattle.fetch_wire.specs.declared.session.turn.Turn.TheVariants as turns;
     ghost use Rattle.fetch_wire.specs.Parameters.{texts_told, first_bad, TellsUnsent};
-    ghost use Rattle.fetch_wire.specs.RequestLines.{request_lines};
-    ghost use Rattle.fetch_wire.specs.Greetings.{offers};
-    ghost use Rattle.fetch_wire.specs.Requests.{first_line, listing_lines};
+    ghost use Rattle.fetch_lines.specs.RequestLines.{request_lines};
+    ghost use Rattle.fetch_lines.specs.Greetings.{offers};
+    ghost use Rattle.fetch_lines.specs.Requests.{first_line, listing_lines};
     ghost use Rattle.fetch_wire.specs.SessionStates as spec;
-    ghost use Rattle.fetch_wire.specs.Written.{lines_text, first_too_long, TellsTooLong};
+    ghost use Rattle.fetch_lines.specs.Written.{lines_text, first_too_long, TellsTooLong};
 
     /// A conversation with the server at this address, which sends these parameters. An address, a parameter as
     /// `name=value`, or the agent with `git/` before it is a `BadParameter` where a NUL or a line feed stands in it; then

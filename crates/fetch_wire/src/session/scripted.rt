@@ -4,14 +4,14 @@ ghost use Rattle.std.specs.Prelude.{◌≡◌, ◌≤◌, ◌↔◌, ◌+◌, �
 ghost use Rattle.std.specs.Prelude.{IsTrue, OnErr, IfOk, Contains, false, slice_index_or};
 ghost use Rattle.std.specs.List.{concat};
 ghost use Rattle.fetch_base.specs.Faults.{Faults, Rose, Counts};
-ghost use Rattle.fetch_wire.specs.Talks.{Talk, Sends, Receives, Makes, at_once};
+ghost use Rattle.fetch_lines.specs.Talks.{Talk, Sends, Receives, Makes, at_once};
 ghost use Rattle.fetch_base.specs.Calls.{one_more, faults_of, risen_after};
 ghost use Rattle.fetch_wire.specs.Scripts.{given_of, pieces_from, from_first, first_of, without, talk_of, sends_failed, said_after};
 ghost use Rattle.fetch_wire.specs.Scripts.{IsListed};
 
-use crate::cloning::copy_slice;
-use crate::session::peer::{Interrupt, Peer, SendFault};
 use fetch_base::{Calls, Failed, NoMemory, Text, copy_from};
+use fetch_lines::{Interrupt, Peer, SendFault};
+use fetch_replies::copy_slice;
 use opening_value::Openings;
 use std::alloc::Global;
 use std::marker::Model;

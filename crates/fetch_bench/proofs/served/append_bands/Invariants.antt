@@ -1,6 +1,6 @@
 use Rattle.std.proofs.Common.{◌≡◌, ◌++◌, drop, map}
-use Rattle.fetch_wire.specs.Bands.{Piece, band_line}
-use Rattle.fetch_wire.specs.Written.{lines_text}
+use Rattle.fetch_lines.specs.Bands.{Piece, band_line}
+use Rattle.fetch_lines.specs.Written.{lines_text}
 use Rattle.fetch_bench.proofs.served.append_bands.Given as goal
 
 abbrev pub invariant-loop-piece : goal.invariant-loop-piece

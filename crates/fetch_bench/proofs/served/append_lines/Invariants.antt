@@ -1,5 +1,5 @@
 use Rattle.std.proofs.Common.{◌≡◌, ◌++◌, drop}
-use Rattle.fetch_wire.specs.Written.{lines_text}
+use Rattle.fetch_lines.specs.Written.{lines_text}
 use Rattle.fetch_bench.proofs.served.append_lines.Given as goal
 
 abbrev pub invariant-loop-line : goal.invariant-loop-line

@@ -1,5 +1,5 @@
 use Rattle.std.proofs.Common.{codes}
-use Rattle.fetch_wire.specs.Requests.{text_line}
+use Rattle.fetch_lines.specs.Requests.{text_line}
 use Rattle.fetch_bench_scene.proofs.BenchParts.{two_written}
 use Rattle.fetch_bench_scene.proofs.bench_text.write_config.Goals as goal
 

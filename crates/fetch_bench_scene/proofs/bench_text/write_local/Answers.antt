@@ -1,4 +1,4 @@
-use Rattle.fetch_wire.specs.Requests.{sent}
+use Rattle.fetch_lines.specs.Requests.{sent}
 use Rattle.fetch_bench_scene.specs.BenchText.{head_texts, config_texts}
 use Rattle.fetch_bench_scene.proofs.BenchParts.{local_written}
 use Rattle.fetch_bench_scene.proofs.bench_text.write_local.Goals as goal

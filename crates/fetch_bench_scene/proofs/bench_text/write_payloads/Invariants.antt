@@ -1,7 +1,7 @@
 use Rattle.std.proofs.Common.{◌≡◌, ◌++◌, drop, map}
 use Rattle.fetch_pack.specs.Texts.{Keeps}
-use Rattle.fetch_wire.specs.Written.{lines_text}
-use Rattle.fetch_wire.specs.declared.lines.line.Line.TheVariants.{Payload}
+use Rattle.fetch_lines.specs.Written.{lines_text}
+use Rattle.fetch_lines.specs.declared.lines.line.Line.TheVariants.{Payload}
 use Rattle.fetch_bench_scene.proofs.bench_text.write_payloads.Given as goal
 
 abbrev pub invariant-loop-piece : goal.invariant-loop-piece

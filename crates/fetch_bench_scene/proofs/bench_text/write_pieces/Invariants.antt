@@ -1,6 +1,6 @@
 use Rattle.std.proofs.Common.{◌≡◌, ◌++◌, length}
 use Rattle.fetch_pack.specs.Texts.{Keeps}
-use Rattle.fetch_wire.specs.Written.{lines_text}
+use Rattle.fetch_lines.specs.Written.{lines_text}
 use Rattle.fetch_bench_scene.specs.BenchText.{piece_lines}
 use Rattle.fetch_bench_scene.proofs.bench_text.write_pieces.Given as goal
 

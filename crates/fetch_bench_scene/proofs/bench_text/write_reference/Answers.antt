@@ -1,6 +1,6 @@
 use Rattle.std.proofs.Common.{ℕ, List, ap, ◌++◌, ◌∙◌}
-use Rattle.fetch_wire.specs.Written.{line_text}
-use Rattle.fetch_wire.specs.declared.lines.line.Line.TheVariants.{Payload}
+use Rattle.fetch_lines.specs.Written.{line_text}
+use Rattle.fetch_lines.specs.declared.lines.line.Line.TheVariants.{Payload}
 use Rattle.fetch_bench_scene.proofs.BenchParts.{tracking_written}
 use Rattle.fetch_bench_scene.proofs.bench_text.write_reference.Goals as goal
 

@@ -1,7 +1,7 @@
 use Rattle.std.proofs.Common.{◌≡◌, ℕ, ◌+◌, ◌-◌, ◌*◌, ◌<◌, take, drop, ap, ◌∙◌, arith}
 use Rattle.std.proofs.lemmas.List.{length-take-le}
-use Rattle.fetch_wire.specs.Written.{line_text}
-use Rattle.fetch_wire.specs.declared.lines.line.Line.TheVariants.{Payload}
+use Rattle.fetch_lines.specs.Written.{line_text}
+use Rattle.fetch_lines.specs.declared.lines.line.Line.TheVariants.{Payload}
 use Rattle.fetch_check.proofs.Cut.{none_cut, piece_cut, line_made, line_within}
 use Rattle.fetch_check.proofs.cutting.cut.Goals as goal
 

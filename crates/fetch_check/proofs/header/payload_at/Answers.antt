@@ -1,5 +1,5 @@
 use Rattle.std.proofs.Common.{refl}
-use Rattle.fetch_wire.specs.LineViews.{line_of}
+use Rattle.fetch_lines.specs.LineViews.{line_of}
 use Rattle.fetch_check.proofs.Found.{as_payload, no_payload, other_line}
 use Rattle.fetch_check.proofs.header.payload_at.Goals as goal
 

@@ -1,7 +1,7 @@
 use Rattle.std.proofs.Common.{length, refl, subst, sym}
 use Rattle.fetch_check.specs.ReadSteps.{AreReadTo}
 use Rattle.fetch_check.proofs.Steps.{fewer, further, no_pieces, piece_more, pieces_end}
-use Rattle.fetch_wire.specs.declared.lines.line.Line.TheVariants.{Payload}
+use Rattle.fetch_lines.specs.declared.lines.line.Line.TheVariants.{Payload}
 use Rattle.fetch_check.proofs.header.read_pieces.Goals as goal
 
 pub pieces-init : goal.pieces-init

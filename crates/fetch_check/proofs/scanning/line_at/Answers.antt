@@ -1,5 +1,5 @@
 use Rattle.std.proofs.lemmas.List.{take_rest}
-use Rattle.fetch_wire.specs.LineViews.{line_of}
+use Rattle.fetch_lines.specs.LineViews.{line_of}
 use Rattle.fetch_check.proofs.Found.{begins_stand}
 use Rattle.fetch_check.proofs.scanning.line_at.Goals as goal
 

@@ -1,5 +1,5 @@
 use Rattle.std.proofs.Common.{sym, ◌∙◌}
-use Rattle.fetch_wire.specs.LineViews.{line_of}
+use Rattle.fetch_lines.specs.LineViews.{line_of}
 use Rattle.fetch_check.proofs.Digits.{begins, capital_none, refused_none}
 use Rattle.fetch_check.proofs.scanning.written_line.Goals as goal
 

@@ -1,5 +1,5 @@
 use Rattle.std.proofs.Common.{◌≡◌, ◌++◌, filter, take}
-use Rattle.fetch_wire.specs.Written.{lines_text}
+use Rattle.fetch_lines.specs.Written.{lines_text}
 use Rattle.fetch_pack.specs.Texts.{Keeps}
 use Rattle.fetch_reach.specs.Sets.{is_among}
 use Rattle.fetch_check.specs.Bundles.{border_lines}

@@ -6,9 +6,9 @@ use Rattle.fetch_pack.specs.Records.{pack_text, payloads_of}
 use Rattle.fetch_pack.specs.Texts.{Keeps}
 use Rattle.fetch_pack.specs.declared.version.PackVersion.TheVariants.{V2}
 use Rattle.fetch_pack.proofs.Growing.{keeps_front}
-use Rattle.fetch_wire.specs.declared.lines.line.Line.TheVariants.{Delim, Flush}
-use Rattle.fetch_wire.specs.Requests.{sent}
-use Rattle.fetch_wire.specs.Written.{line_text, lines_text}
+use Rattle.fetch_lines.specs.declared.lines.line.Line.TheVariants.{Delim, Flush}
+use Rattle.fetch_lines.specs.Requests.{sent}
+use Rattle.fetch_lines.specs.Written.{line_text, lines_text}
 use Rattle.fetch_reach.specs.Sets.{is_among}
 use Rattle.fetch_reach.specs.Stored.{objects_at}
 use Rattle.fetch_check.specs.Bundles.{head_texts, ref_lines, border_lines, piece_lines}

@@ -3,8 +3,8 @@ use Rattle.std.specs.Prelude.{slice_get}
 use Rattle.std.specs.FinMap.{entries}
 use Rattle.std.specs.List.{filter_map}
 use Rattle.fetch_refs.specs.Iter.{left}
-use Rattle.fetch_wire.specs.Requests.{sent}
-use Rattle.fetch_wire.specs.Written.{lines_text}
+use Rattle.fetch_lines.specs.Requests.{sent}
+use Rattle.fetch_lines.specs.Written.{lines_text}
 use Rattle.fetch_pack.specs.Texts.{Keeps}
 use Rattle.fetch_check.specs.Bundles.{ref_text, long_name}
 use Rattle.fetch_check.proofs.writing.append_references.Given as goal

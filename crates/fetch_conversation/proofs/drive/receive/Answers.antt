@@ -1,7 +1,7 @@
 use Rattle.std.proofs.Common.{◌≡◌, ◌<◌, false, [], length, take, inl, inr, refl, subst, arith}
 use Rattle.std.proofs.lemmas.Grind.{common_steps}
 use Rattle.std.proofs.lemmas.Result.{err_from_is_err_and}
-use Rattle.fetch_wire.specs.Talks.{Talks, Talks-none}
+use Rattle.fetch_lines.specs.Talks.{Talks, Talks-none}
 use Rattle.fetch_conversation.proofs.Driven.{takes_end, takes_refusal, takes_yes, end_troubled, fed_troubled}
 use Rattle.fetch_conversation.proofs.Heeded.{never_by}
 use Rattle.fetch_conversation.proofs.Blame.{interrupt_once}

@@ -1,12 +1,12 @@
 use Rattle.std.proofs.Common.{◌≡◌, Bool, true, false, not, List, Option, None, Result, Ok, Err, OnOk, IfErr, refl, sym, ap, ◌∙◌, subst}
 use Rattle.std.specs.Prelude.{◌||◌}
 use Rattle.fetch_base.specs.declared.id.ObjectId.{ObjectId}
-use Rattle.fetch_wire.specs.RequestLines.{request_lines}
+use Rattle.fetch_lines.specs.RequestLines.{request_lines}
 use Rattle.fetch_wire.specs.SessionStates.{SessionState, IsAlike, requested, turn_of, refusal_of, if_told, is_all_sent, kind_of}
-use Rattle.fetch_wire.specs.Written.{first_too_long, TellsTooLong}
-use Rattle.fetch_wire.specs.declared.error.WireError.{WireError}
-use Rattle.fetch_wire.specs.declared.lines.line.Line.{Line}
-use Rattle.fetch_wire.specs.declared.requests.records.Request.{Request}
+use Rattle.fetch_lines.specs.Written.{first_too_long, TellsTooLong}
+use Rattle.fetch_lines.specs.declared.error.WireError.{WireError}
+use Rattle.fetch_lines.specs.declared.lines.line.Line.{Line}
+use Rattle.fetch_lines.specs.declared.requests.records.Request.{Request}
 use Rattle.fetch_wire.specs.declared.session.turn.Turn.TheVariants as turns
 use Rattle.fetch_negotiate.specs.Requests.{Asked, text_lines, fetch_request}
 use Rattle.fetch_conversation.specs.Conversing.{IsAsked, arguments_told}

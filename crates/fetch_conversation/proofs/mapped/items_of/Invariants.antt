@@ -1,5 +1,5 @@
 use Rattle.std.proofs.Common.{◌≡◌, map, take}
-use Rattle.fetch_wire.specs.References.{name_in}
+use Rattle.fetch_lines.specs.References.{name_in}
 use Rattle.fetch_specs.specs.declared.matching.Item.{Item}
 use Rattle.fetch_conversation.proofs.mapped.items_of.Given as goal
 

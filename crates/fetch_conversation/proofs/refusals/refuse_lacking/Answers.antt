@@ -1,10 +1,10 @@
 use Rattle.std.proofs.Common.{◌≡◌, Bool, not, Option, refl, sym, subst}
 use Rattle.std.specs.Prelude.{◌||◌}
 use Rattle.std.specs.Option.{option_or}
-use Rattle.fetch_wire.specs.Greetings.{offers, has_word, value_of}
-use Rattle.fetch_wire.specs.RequestWords.{plain_pack, plain_pack_2}
-use Rattle.fetch_wire.specs.declared.greetings.handshake.Handshake.{Handshake}
-use Rattle.fetch_wire.specs.declared.greetings.handshake.Version.TheVariants as versions
+use Rattle.fetch_lines.specs.Greetings.{offers, has_word, value_of}
+use Rattle.fetch_lines.specs.RequestWords.{plain_pack, plain_pack_2}
+use Rattle.fetch_lines.specs.declared.greetings.handshake.Handshake.{Handshake}
+use Rattle.fetch_lines.specs.declared.greetings.handshake.Version.TheVariants as versions
 use Rattle.fetch_conversation.specs.Conversing.{Tells}
 use Rattle.fetch_conversation.specs.ConverseStage.{lacks, lacked, is_border_needed, fetch_feature, shallow_feature}
 use Rattle.fetch_conversation.specs.declared.fetch.Error.{Error}

@@ -1,7 +1,7 @@
 use Rattle.std.proofs.Common.{◌≡◌, Option, Some, None, Result, Err}
 use Rattle.std.specs.Option.{option_or}
 use Rattle.std.proofs.lemmas.Result.{err_from_is_err_and}
-use Rattle.fetch_wire.specs.RequestWords.{plain_pack}
+use Rattle.fetch_lines.specs.RequestWords.{plain_pack}
 use Rattle.fetch_conversation.specs.Conversing.{Tells}
 use Rattle.fetch_conversation.specs.ConverseStage.{lacks, fetch_feature, shallow_feature}
 use Rattle.fetch_conversation.specs.declared.fetch.Error.{Error}

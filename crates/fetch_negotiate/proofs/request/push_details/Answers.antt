@@ -1,10 +1,10 @@
 use Rattle.std.proofs.Common.{Bool, List, ◌++◌, ap, ◌∙◌}
 use Rattle.fetch_base.specs.declared.id.ObjectId.{ObjectId}
 use Rattle.fetch_store.specs.Borders.{ids_of}
-use Rattle.fetch_wire.specs.Requests.{when}
-use Rattle.fetch_wire.specs.RequestLines.{id_lines}
+use Rattle.fetch_lines.specs.Requests.{when}
+use Rattle.fetch_lines.specs.RequestLines.{id_lines}
 use Rattle.fetch_negotiate.specs.Requests as spec
-use Rattle.fetch_wire.specs.RequestWords.{include_tag, shallow_word, want_word}
+use Rattle.fetch_lines.specs.RequestWords.{include_tag, shallow_word, want_word}
 use Rattle.fetch_negotiate.proofs.Lines.{four}
 use Rattle.fetch_negotiate.proofs.request.push_details.Goals as goal
 

@@ -1,6 +1,6 @@
 use Rattle.std.proofs.Common.{◌∷◌, [], ◌++◌, List, ℕ, ap, ◌∙◌, append_assoc}
-use Rattle.fetch_wire.specs.RequestWords.{command_word}
-use Rattle.fetch_wire.specs.Requests.{head_texts}
+use Rattle.fetch_lines.specs.RequestWords.{command_word}
+use Rattle.fetch_lines.specs.Requests.{head_texts}
 use Rattle.fetch_negotiate.proofs.request.push_head.Goals as goal
 
 pub returns : goal.returns

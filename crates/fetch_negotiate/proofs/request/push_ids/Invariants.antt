@@ -1,5 +1,5 @@
 use Rattle.std.proofs.Common.{◌≡◌, ◌++◌, take}
-use Rattle.fetch_wire.specs.RequestLines.{id_lines}
+use Rattle.fetch_lines.specs.RequestLines.{id_lines}
 use Rattle.fetch_negotiate.proofs.request.push_ids.Given as goal
 
 abbrev pub invariant-loop-id : goal.invariant-loop-id

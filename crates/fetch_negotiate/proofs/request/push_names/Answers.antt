@@ -1,5 +1,5 @@
 use Rattle.std.proofs.Common.{◌++◌, List, ℕ, ap, ◌∙◌, ◌∷◌, []}
-use Rattle.fetch_wire.specs.RequestWords.{not_word}
+use Rattle.fetch_lines.specs.RequestWords.{not_word}
 use Rattle.fetch_negotiate.proofs.Lines.{mapped_more}
 use Rattle.fetch_negotiate.proofs.request.push_names.Goals as goal
 

@@ -1,5 +1,5 @@
 use Rattle.std.proofs.Common.{◌≡◌, ◌++◌, take, map}
-use Rattle.fetch_wire.specs.RequestWords.{not_word}
+use Rattle.fetch_lines.specs.RequestWords.{not_word}
 use Rattle.fetch_negotiate.proofs.request.push_names.Given as goal
 
 abbrev pub invariant-loop-name : goal.invariant-loop-name

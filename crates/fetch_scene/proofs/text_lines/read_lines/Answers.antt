@@ -1,5 +1,5 @@
 use Rattle.std.proofs.Common.{sym}
-use Rattle.fetch_wire.specs.LineViews.{line_of}
+use Rattle.fetch_lines.specs.LineViews.{line_of}
 use Rattle.fetch_scene.proofs.TextLines.{goes, ends}
 use Rattle.fetch_scene.proofs.text_lines.read_lines.Goals as goal
 

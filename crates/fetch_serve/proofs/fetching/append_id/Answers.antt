@@ -1,7 +1,7 @@
 use Rattle.std.proofs.Common.{◌≡◌, ◌++◌, ◌∷◌, [], ℕ, List, length, ap, sym, ◌∙◌}
 use Rattle.fetch_base.specs.Digits.{hex_of}
-use Rattle.fetch_wire.specs.Written.{line_text}
-use Rattle.fetch_wire.specs.declared.lines.line.Line.TheVariants.{Payload}
+use Rattle.fetch_lines.specs.Written.{line_text}
+use Rattle.fetch_lines.specs.declared.lines.line.Line.TheVariants.{Payload}
 use Rattle.fetch_serve.proofs.Appending.{id_short, on_ok}
 use Rattle.fetch_serve.proofs.fetching.append_id.Goals as goal
 

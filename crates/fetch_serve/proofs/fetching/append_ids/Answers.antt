@@ -1,9 +1,9 @@
 use Rattle.std.proofs.Common.{◌+◌, ◌<◌, ◌++◌, [], List, drop, length, get_or, sym, ap, ◌∙◌, arith}
 use Rattle.fetch_base.specs.declared.id.ObjectId.{ObjectId}
 use Rattle.fetch_base.specs.declared.id.ObjectId.TheVariants.{Sha1}
-use Rattle.fetch_wire.specs.RequestLines.{id_lines}
-use Rattle.fetch_wire.specs.Requests.{sent}
-use Rattle.fetch_wire.specs.Written.{lines_text}
+use Rattle.fetch_lines.specs.RequestLines.{id_lines}
+use Rattle.fetch_lines.specs.Requests.{sent}
+use Rattle.fetch_lines.specs.Written.{lines_text}
 use Rattle.fetch_serve.proofs.Appending.{ids_on}
 use Rattle.fetch_serve.proofs.Collecting.{drop_one}
 use Rattle.fetch_serve.proofs.fetching.append_ids.Goals as goal

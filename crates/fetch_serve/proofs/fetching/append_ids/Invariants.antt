@@ -1,7 +1,7 @@
 use Rattle.std.proofs.Common.{◌≡◌, ◌++◌, drop}
-use Rattle.fetch_wire.specs.RequestLines.{id_lines}
-use Rattle.fetch_wire.specs.Requests.{sent}
-use Rattle.fetch_wire.specs.Written.{lines_text}
+use Rattle.fetch_lines.specs.RequestLines.{id_lines}
+use Rattle.fetch_lines.specs.Requests.{sent}
+use Rattle.fetch_lines.specs.Written.{lines_text}
 use Rattle.fetch_serve.proofs.fetching.append_ids.Given as goal
 
 abbrev pub invariant-loop-id : goal.invariant-loop-id

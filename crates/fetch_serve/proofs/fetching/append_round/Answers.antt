@@ -1,6 +1,6 @@
 use Rattle.std.proofs.Common.{ap, ◌∙◌}
-use Rattle.fetch_wire.specs.ServerLines.{round_lines}
-use Rattle.fetch_wire.specs.Written.{first_too_long}
+use Rattle.fetch_lines.specs.ServerLines.{round_lines}
+use Rattle.fetch_lines.specs.Written.{first_too_long}
 use Rattle.fetch_serve.specs.Parts.{held_by}
 use Rattle.fetch_serve.proofs.Appending.{known_fit}
 use Rattle.fetch_serve.proofs.fetching.append_round.Goals as goal

@@ -1,5 +1,5 @@
 use Rattle.std.proofs.Common.{◌++◌, codes}
-use Rattle.fetch_wire.specs.Requests.{text_line}
+use Rattle.fetch_lines.specs.Requests.{text_line}
 use Rattle.fetch_serve.specs.Replies.{too_large}
 use Rattle.fetch_serve.proofs.Appending.{line_is, on_ok}
 use Rattle.fetch_serve.proofs.fetching.append_too_large.Goals as goal

@@ -1,6 +1,6 @@
 use Rattle.std.proofs.Common.{ap, ◌∙◌}
-use Rattle.fetch_wire.specs.ServerLines.{greeting_lines}
-use Rattle.fetch_wire.specs.Written.{first_too_long}
+use Rattle.fetch_lines.specs.ServerLines.{greeting_lines}
+use Rattle.fetch_lines.specs.Written.{first_too_long}
 use Rattle.fetch_serve.proofs.Fitting.{greeting_fits}
 use Rattle.fetch_serve.proofs.replying.append_greeting.Goals as goal
 

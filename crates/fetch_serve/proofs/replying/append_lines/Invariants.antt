@@ -1,5 +1,5 @@
 use Rattle.std.proofs.Common.{◌≡◌, ◌++◌, drop, None}
-use Rattle.fetch_wire.specs.Written.{first_too_long, lines_text}
+use Rattle.fetch_lines.specs.Written.{first_too_long, lines_text}
 use Rattle.fetch_serve.proofs.replying.append_lines.Given as goal
 
 abbrev pub invariant-loop-line : goal.invariant-loop-line

@@ -1,6 +1,6 @@
 use Rattle.std.proofs.Common.{ap, ◌∙◌}
-use Rattle.fetch_wire.specs.ServerLines.{listing_lines_of}
-use Rattle.fetch_wire.specs.Written.{first_too_long}
+use Rattle.fetch_lines.specs.ServerLines.{listing_lines_of}
+use Rattle.fetch_lines.specs.Written.{first_too_long}
 use Rattle.fetch_serve.specs.Parts.{held_by}
 use Rattle.fetch_serve.proofs.Fitting.{listing_fits}
 use Rattle.fetch_serve.proofs.replying.append_listing.Goals as goal

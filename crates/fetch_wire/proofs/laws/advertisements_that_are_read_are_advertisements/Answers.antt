@@ -1,8 +1,8 @@
-use Rattle.fetch_wire.specs.Awaited.{step_of}
-use Rattle.fetch_wire.specs.declared.replies.reply.ReplyKind.TheVariants as awaits
-use Rattle.fetch_wire.specs.declared.replies.reply.ParsedReply.TheVariants as tolds
-use Rattle.fetch_wire.specs.declared.replies.parser.ReplyParser.TheVariants as reading
-use Rattle.fetch_wire.proofs.ReadBack.{told_were}
+use Rattle.fetch_replies.specs.Awaited.{step_of}
+use Rattle.fetch_replies.specs.declared.replies.reply.ReplyKind.TheVariants as awaits
+use Rattle.fetch_replies.specs.declared.replies.reply.ParsedReply.TheVariants as tolds
+use Rattle.fetch_replies.specs.declared.replies.parser.ReplyParser.TheVariants as reading
+use Rattle.fetch_replies.proofs.ReadBack.{told_were}
 use Rattle.fetch_wire.proofs.NamedOnce.{names_once}
 use Rattle.fetch_wire.proofs.SpelledAdvertisement.{advertisement_told}
 use Rattle.fetch_wire.proofs.laws.advertisements_that_are_read_are_advertisements.Goals as goal

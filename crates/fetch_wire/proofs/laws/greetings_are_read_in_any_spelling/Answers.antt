@@ -1,7 +1,7 @@
-use Rattle.fetch_wire.specs.declared.replies.reply.ParsedReply.TheVariants as told
-use Rattle.fetch_wire.specs.declared.replies.parser.ReplyParser.TheVariants as reading
-use Rattle.fetch_wire.specs.Awaited.{step_of}
-use Rattle.fetch_wire.specs.LinesTold.{lines_tell}
+use Rattle.fetch_replies.specs.declared.replies.reply.ParsedReply.TheVariants as told
+use Rattle.fetch_replies.specs.declared.replies.parser.ReplyParser.TheVariants as reading
+use Rattle.fetch_replies.specs.Awaited.{step_of}
+use Rattle.fetch_replies.specs.LinesTold.{lines_tell}
 use Rattle.fetch_wire.proofs.InWords.{greeting_read}
 use Rattle.fetch_wire.proofs.laws.greetings_are_read_in_any_spelling.Goals as goal
 

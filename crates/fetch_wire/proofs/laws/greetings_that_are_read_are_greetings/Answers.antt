@@ -1,7 +1,7 @@
-use Rattle.fetch_wire.specs.Awaited.{step_of}
-use Rattle.fetch_wire.specs.declared.replies.reply.ParsedReply.TheVariants as tolds
-use Rattle.fetch_wire.specs.declared.replies.parser.ReplyParser.TheVariants as reading
-use Rattle.fetch_wire.proofs.ReadBack.{told_were}
+use Rattle.fetch_replies.specs.Awaited.{step_of}
+use Rattle.fetch_replies.specs.declared.replies.reply.ParsedReply.TheVariants as tolds
+use Rattle.fetch_replies.specs.declared.replies.parser.ReplyParser.TheVariants as reading
+use Rattle.fetch_replies.proofs.ReadBack.{told_were}
 use Rattle.fetch_wire.proofs.Spelled.{greeted}
 use Rattle.fetch_wire.proofs.laws.greetings_that_are_read_are_greetings.Goals as goal
 

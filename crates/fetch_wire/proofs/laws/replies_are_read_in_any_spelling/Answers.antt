@@ -1,7 +1,7 @@
-use Rattle.fetch_wire.specs.declared.replies.reply.ReplyKind.TheVariants.{Reply}
-use Rattle.fetch_wire.specs.declared.replies.reply.ParsedReply.TheVariants as told
-use Rattle.fetch_wire.specs.Awaited.{step_of, start_of}
-use Rattle.fetch_wire.specs.LinesTold.{lines_tell}
+use Rattle.fetch_replies.specs.declared.replies.reply.ReplyKind.TheVariants.{Reply}
+use Rattle.fetch_replies.specs.declared.replies.reply.ParsedReply.TheVariants as told
+use Rattle.fetch_replies.specs.Awaited.{step_of, start_of}
+use Rattle.fetch_replies.specs.LinesTold.{lines_tell}
 use Rattle.fetch_wire.proofs.InWords.{reply_read}
 use Rattle.fetch_wire.proofs.laws.replies_are_read_in_any_spelling.Goals as goal
 

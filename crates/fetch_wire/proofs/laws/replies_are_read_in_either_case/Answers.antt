@@ -1,5 +1,5 @@
-use Rattle.fetch_wire.specs.Awaited.{step_of, start_of}
-use Rattle.fetch_wire.specs.LinesTold.{lines_tell}
+use Rattle.fetch_replies.specs.Awaited.{step_of, start_of}
+use Rattle.fetch_replies.specs.LinesTold.{lines_tell}
 use Rattle.fetch_wire.proofs.laws.replies_are_read_in_either_case.Goals as goal
 
 pub returns : goal.returns

@@ -1,5 +1,5 @@
-use Rattle.fetch_wire.specs.Awaited.{step_of}
-use Rattle.fetch_wire.specs.StepLaws.{read_by-step}
+use Rattle.fetch_replies.specs.Awaited.{step_of}
+use Rattle.fetch_replies.specs.StepLaws.{read_by-step}
 use Rattle.fetch_wire.proofs.laws.replies_are_read_line_by_line.Goals as goal
 
 pub returns : goal.returns

@@ -1,5 +1,5 @@
-use Rattle.fetch_wire.specs.Awaited.{step_of, start_of}
-use Rattle.fetch_wire.specs.StepLaws.{read_by-more}
+use Rattle.fetch_replies.specs.Awaited.{step_of, start_of}
+use Rattle.fetch_replies.specs.StepLaws.{read_by-more}
 use Rattle.fetch_wire.proofs.laws.replies_stay.Goals as goal
 
 pub returns : goal.returns

@@ -1,9 +1,9 @@
-use Rattle.fetch_wire.specs.Awaited.{step_of}
-use Rattle.fetch_wire.specs.FetchReplies.{no_reply}
-use Rattle.fetch_wire.specs.declared.replies.reply.ParsedReply.TheVariants as tolds
-use Rattle.fetch_wire.specs.declared.replies.parser.Part.TheVariants as parts
-use Rattle.fetch_wire.specs.declared.replies.parser.ReplyParser.TheVariants as reading
-use Rattle.fetch_wire.proofs.ReadBack.{told_were}
+use Rattle.fetch_replies.specs.Awaited.{step_of}
+use Rattle.fetch_lines.specs.FetchRecords.{no_reply}
+use Rattle.fetch_replies.specs.declared.replies.reply.ParsedReply.TheVariants as tolds
+use Rattle.fetch_replies.specs.declared.replies.parser.Part.TheVariants as parts
+use Rattle.fetch_replies.specs.declared.replies.parser.ReplyParser.TheVariants as reading
+use Rattle.fetch_replies.proofs.ReadBack.{told_were}
 use Rattle.fetch_wire.proofs.SpelledReply.{reply_told}
 use Rattle.fetch_wire.proofs.laws.replies_that_are_read_are_replies.Goals as goal
 

@@ -1,6 +1,6 @@
 use Rattle.std.proofs.Common.{ap, ◌∙◌}
 use Rattle.fetch_wire.specs.contracts.session.conversation.Session.{the_view}
-use Rattle.fetch_wire.specs.Written.{lines_text}
+use Rattle.fetch_lines.specs.Written.{lines_text}
 use Rattle.fetch_wire.proofs.Conversing.{requested_is}
 use Rattle.fetch_wire.proofs.session.conversation.Session.request.Goals as goal
 

@@ -1,0 +1,4 @@
+//! What a server offers, as a record.
+
+pub mod greeting;
+pub mod handshake;

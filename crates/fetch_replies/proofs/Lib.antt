@@ -1,0 +1,12 @@
+pub mod Listed
+pub mod Peeling
+pub mod Staying
+pub mod Driving
+pub mod Moving
+pub mod IdTexts
+pub mod GreetingLines
+pub mod ListingLines
+pub mod KnownIds
+pub mod ReplyLines
+pub mod ReadBack
+pub mod RepliesFed

@@ -1,0 +1,15 @@
+pub mod Listings
+pub mod Stepping
+pub mod Steps
+pub mod FetchReplies
+pub mod Advertisements
+pub mod Awaited
+pub mod StepLaws
+pub mod ReadSteps
+pub mod LinesTold
+pub mod Bounds
+pub mod Progressing
+pub mod Intakes
+pub mod ReplyReadings
+pub mod NamesTold
+pub mod BandsTold

@@ -1,0 +1,4 @@
+//! Greetings: what a server says first.
+
+pub mod advertisement;
+pub mod opening;

@@ -1,9 +1,0 @@
-//! Replies: what is awaited, and what it tells.
-
-pub mod bound;
-pub mod fetch_reply;
-pub mod haves;
-pub mod parser;
-pub mod progress;
-pub mod reply;
-pub mod saying;
