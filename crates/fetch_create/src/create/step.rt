@@ -3,6 +3,7 @@
 use fetch_store::Text;
 
 /// A step of a creation: one thing that is tested or made at a path.
+// Not copied: it is made and taken once.
 #[derive(Debug, Drop)]
 pub enum Step {
     /// The directory is there without an entry, or is made.
