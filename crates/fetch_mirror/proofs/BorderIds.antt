@@ -21,7 +21,7 @@ use Rattle.fetch_shared.specs.Replays.{Outline, outline}
 use Rattle.fetch_shared.specs.Shared.{IsKept, SharedValue}
 use Rattle.fetch_shared.proofs.Replays.{replay_hash}
 use Rattle.fetch_lines.specs.ServerLines.{IsIdOf}
-use Rattle.fetch_serve.specs.Requests.{is_greater}
+use Rattle.fetch_asked.specs.Requests.{is_greater}
 use Rattle.fetch_serve.proofs.Ids.{own_is}
 use Rattle.fetch_mirror.specs.Fetches.{AreAbove}
 

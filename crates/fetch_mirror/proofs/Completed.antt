@@ -13,8 +13,8 @@ use Rattle.fetch_shared.specs.declared.error.SharedError.TheVariants as shared
 use Rattle.fetch_serve.specs.Peers.{ServedPeer}
 use Rattle.fetch_serve.specs.Servable.{IsServable, IsTrouble, unservable_names}
 use Rattle.fetch_serve.specs.Served.{Data}
-use Rattle.fetch_serve.specs.declared.error.ServeError.{ServeError}
-use Rattle.fetch_serve.specs.declared.error.ServeError.TheVariants as serve
+use Rattle.fetch_asked.specs.declared.error.ServeError.{ServeError}
+use Rattle.fetch_asked.specs.declared.error.ServeError.TheVariants as serve
 use Rattle.fetch_mirror.specs.declared.error.MirrorError.{MirrorError}
 use Rattle.fetch_mirror.specs.declared.error.MirrorError.TheVariants as errors
 use Rattle.fetch_mirror.specs.declared.options.Mirrored.{Mirrored}

@@ -27,15 +27,15 @@ use Rattle.fetch_replies.proofs.Moving.{Moves, first_tells, lf_last, moves_tell}
 use Rattle.fetch_negotiate.specs.Requests.{Asked as Request, depth_lines, fetch_request, head_of, is_included, pack_word}
 use Rattle.fetch_negotiate.specs.declared.algorithm.Shallow.{Shallow}
 use Rattle.fetch_negotiate.specs.declared.algorithm.Shallow.TheVariants.{NoChange}
-use Rattle.fetch_serve.specs.declared.asked.Asked.TheVariants.{Fetch}
-use Rattle.fetch_serve.specs.declared.asked.FetchAsked.{FetchAsked}
-use Rattle.fetch_serve.specs.declared.reading.FetchHead.TheVariants as head
-use Rattle.fetch_serve.specs.declared.reading.FetchPart.{FetchPart}
-use Rattle.fetch_serve.specs.declared.reading.FetchPart.TheVariants as parts
-use Rattle.fetch_serve.specs.declared.reading.Reading.{Reading}
-use Rattle.fetch_serve.specs.declared.reading.Reading.TheVariants as reading
+use Rattle.fetch_asked.specs.declared.asked.Asked.TheVariants.{Fetch}
+use Rattle.fetch_asked.specs.declared.asked.FetchAsked.{FetchAsked}
+use Rattle.fetch_asked.specs.declared.reading.FetchHead.TheVariants as head
+use Rattle.fetch_asked.specs.declared.reading.FetchPart.{FetchPart}
+use Rattle.fetch_asked.specs.declared.reading.FetchPart.TheVariants as parts
+use Rattle.fetch_asked.specs.declared.reading.Reading.{Reading}
+use Rattle.fetch_asked.specs.declared.reading.Reading.TheVariants as reading
 use Rattle.fetch_serve.specs.Offered.{capabilities_of}
-use Rattle.fetch_serve.specs.Requests.{IsRequest, asked_step, at_detail, detail_in, format_text, has_id, is_greater, nothing_asked}
+use Rattle.fetch_asked.specs.Requests.{IsRequest, asked_step, at_detail, detail_in, format_text, has_id, is_greater, nothing_asked}
 use Rattle.fetch_mirror.specs.Fetches.{AreAbove, AreNew, IsWanting, wanting_behind}
 use Rattle.fetch_mirror.specs.Listings.{greeting_of}
 

@@ -30,7 +30,7 @@ use Rattle.fetch_lines.specs.declared.lines.line.Line.{Line}
 use Rattle.fetch_lines.specs.declared.lines.line.Line.TheVariants.{Delim, Flush}
 use Rattle.fetch_negotiate.specs.Requests.{Asked as Request, fetch_request}
 use Rattle.fetch_serve.specs.Offered.{capabilities_of}
-use Rattle.fetch_serve.specs.Requests.{format_text}
+use Rattle.fetch_asked.specs.Requests.{format_text}
 use Rattle.fetch_serve.specs.Servable.{IsServable, is_long, is_refused, end_of, is_unlistable, is_unservable, unservable_names}
 use Rattle.fetch_serve.specs.Served.{Data, references_of}
 use Rattle.fetch_serve.proofs.Fitting.{text_fits}

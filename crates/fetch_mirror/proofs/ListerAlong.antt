@@ -21,8 +21,8 @@ use Rattle.fetch_serve.specs.Peers.{ServedPeer, heard_by, is_troubled, talk_with
 use Rattle.fetch_serve.specs.Replies.{replies_of, reply_lines}
 use Rattle.fetch_serve.specs.Servable.{IsServable}
 use Rattle.fetch_serve.specs.Served.{Data}
-use Rattle.fetch_serve.specs.Texts.{asked_within, request_bound}
-use Rattle.fetch_serve.specs.declared.asked.Asked.TheVariants.{First, Listing}
+use Rattle.fetch_asked.specs.Texts.{asked_within, request_bound}
+use Rattle.fetch_asked.specs.declared.asked.Asked.TheVariants.{First, Listing}
 use Rattle.fetch_serve.proofs.Answered.{answered}
 use Rattle.fetch_serve.proofs.Growing.{nothing_first}
 use Rattle.fetch_mirror.specs.Born.{born_names}

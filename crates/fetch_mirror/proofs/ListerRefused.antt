@@ -28,16 +28,16 @@ use Rattle.fetch_conversation.specs.declared.prepare.Error.{Error}
 use Rattle.fetch_conversation.specs.declared.prepare.Error.TheVariants.{RefMap}
 use Rattle.fetch_conversation.specs.declared.ref_map.Error.{Error as ListError}
 use Rattle.fetch_conversation.specs.declared.ref_map.Error.TheVariants as ref_map
-use Rattle.fetch_serve.specs.declared.asked.Asked.TheVariants.{First, Listing}
-use Rattle.fetch_serve.specs.declared.error.ServeError.{ServeError}
+use Rattle.fetch_asked.specs.declared.asked.Asked.TheVariants.{First, Listing}
+use Rattle.fetch_asked.specs.declared.error.ServeError.{ServeError}
 use Rattle.fetch_serve.specs.Offered.{capabilities_of, offered_of}
 use Rattle.fetch_serve.specs.Peers.{ServedPeer, faults_of, heard_by, is_troubled, talk_with, told_by}
 use Rattle.fetch_serve.specs.Replies.{replies_of, reply_lines, reply_text}
 use Rattle.fetch_serve.specs.Servable.{IsServable}
 use Rattle.fetch_serve.specs.Served.{Data}
-use Rattle.fetch_serve.specs.Texts.{AskedIn, and_more, asked_in, request_bound}
+use Rattle.fetch_asked.specs.Texts.{AskedIn, and_more, asked_in, request_bound}
 use Rattle.fetch_serve.proofs.Answered.{greeting}
-use Rattle.fetch_serve.proofs.Asking.{asked_in-more}
+use Rattle.fetch_asked.proofs.Asking.{asked_in-more}
 use Rattle.fetch_serve.proofs.Fitting.{greeting_fits}
 use Rattle.fetch_serve.proofs.Growing.{nothing_first}
 use Rattle.fetch_mirror.specs.Copying.{fresh, given_by}

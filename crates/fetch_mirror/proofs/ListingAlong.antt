@@ -15,12 +15,12 @@ use Rattle.fetch_replies.specs.declared.replies.reply.ParsedReply.TheVariants as
 use Rattle.fetch_conversation.specs.Conversation.{Conversation, ends, asks, asks_unless}
 use Rattle.fetch_conversation.specs.ListStage.{LsRefsValue, ListedValue, failed, greeted, ls_refs_stage, listed, listing, mapped, prefixes_asked, too_long, unless, unlisted}
 use Rattle.fetch_conversation.specs.declared.prepare.Error.{Error}
-use Rattle.fetch_serve.specs.declared.asked.Asked.TheVariants.{First, Listing}
+use Rattle.fetch_asked.specs.declared.asked.Asked.TheVariants.{First, Listing}
 use Rattle.fetch_serve.specs.Offered.{capabilities_of, offered_of}
 use Rattle.fetch_serve.specs.Replies.{replies_of, reply_lines}
 use Rattle.fetch_serve.specs.Served.{Data}
 use Rattle.fetch_serve.specs.Servable.{IsServable}
-use Rattle.fetch_serve.specs.Texts.{request_bound}
+use Rattle.fetch_asked.specs.Texts.{request_bound}
 use Rattle.fetch_serve.proofs.Fitting.{greeting_fits, listing_fits}
 use Rattle.fetch_mirror.specs.GoingAlong.{GoesAlong, GoesTo}
 use Rattle.fetch_mirror.specs.Listings.{AreRising, AreTold, IsHeard, IsInquiry, asked_lines, greeting_of}

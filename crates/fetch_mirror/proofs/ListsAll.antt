@@ -15,7 +15,7 @@ use Rattle.fetch_serve.specs.Peers.{ServedPeer, told_by}
 use Rattle.fetch_serve.specs.Replies.{reply_lines}
 use Rattle.fetch_serve.specs.Servable.{IsServable}
 use Rattle.fetch_serve.specs.Served.{Data}
-use Rattle.fetch_serve.specs.declared.asked.Asked.TheVariants.{First, Listing}
+use Rattle.fetch_asked.specs.declared.asked.Asked.TheVariants.{First, Listing}
 use Rattle.fetch_shared.specs.Conversed.{given_to}
 use Rattle.fetch_shared.specs.declared.entry.Entry.{Entry}
 use Rattle.fetch_shared.specs.declared.error.SharedError.TheVariants as shared

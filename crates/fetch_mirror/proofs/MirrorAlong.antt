@@ -19,10 +19,10 @@ use Rattle.fetch_remote.specs.Errors.{receiving}
 use Rattle.fetch_remote.specs.Form.{Given}
 use Rattle.fetch_remote.specs.Repositories.{State}
 use Rattle.fetch_remote.specs.Stages.{bound_of, conversation, inquiry_in, pack_stage, terms_in}
-use Rattle.fetch_serve.specs.declared.asked.Asked.TheVariants.{Fetch}
+use Rattle.fetch_asked.specs.declared.asked.Asked.TheVariants.{Fetch}
 use Rattle.fetch_serve.specs.Replies.{replies_of, reply_lines}
 use Rattle.fetch_serve.specs.Served.{Data}
-use Rattle.fetch_serve.specs.Texts.{request_bound}
+use Rattle.fetch_asked.specs.Texts.{request_bound}
 use Rattle.fetch_mirror.specs.Fetches.{IsFetching, one_round, wanting_behind}
 use Rattle.fetch_mirror.specs.GoingAlong.{GoesAlong, GoesTo}
 use Rattle.fetch_mirror.specs.Listings.{asked_lines, greeting_of}

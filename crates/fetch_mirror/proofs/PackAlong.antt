@@ -28,10 +28,10 @@ use Rattle.fetch_conversation.specs.ListStage.{unless}
 use Rattle.fetch_conversation.specs.Rounds.{Negotiated, first_rounds_state, negotiating}
 use Rattle.fetch_conversation.specs.declared.conversing.Received.{Received}
 use Rattle.fetch_conversation.specs.declared.fetch.Error.{Error}
-use Rattle.fetch_serve.specs.declared.asked.Asked.TheVariants.{Fetch}
+use Rattle.fetch_asked.specs.declared.asked.Asked.TheVariants.{Fetch}
 use Rattle.fetch_serve.specs.Replies.{error_lines, replies_of, reply_lines}
 use Rattle.fetch_serve.specs.Served.{Data}
-use Rattle.fetch_serve.specs.Texts.{request_bound}
+use Rattle.fetch_asked.specs.Texts.{request_bound}
 use Rattle.fetch_mirror.specs.Fetches.{AreAbove, AreNew, IsFetching, IsWanting, one_round, wanting_behind}
 use Rattle.fetch_mirror.specs.GoingAlong.{GoesAlong, GoesTo}
 use Rattle.fetch_mirror.proofs.FetchRead.{fetch_read}

@@ -17,7 +17,7 @@ use Rattle.fetch_conversation.specs.declared.conversing.Received.{Received}
 use Rattle.fetch_shared.specs.declared.entry.Entry.{Entry}
 use Rattle.fetch_shared.specs.declared.entry.Entry.TheVariants.{Take, Commit}
 use Rattle.fetch_shared.specs.PackTaken.{take_entries}
-use Rattle.fetch_serve.specs.declared.asked.FetchAsked.{FetchAsked}
+use Rattle.fetch_asked.specs.declared.asked.FetchAsked.{FetchAsked}
 use Rattle.fetch_serve.specs.Depths.{depth_of}
 use Rattle.fetch_serve.specs.Packs.{IsNeeded, IsTagOnTheWay, pack_of, served_of}
 use Rattle.fetch_serve.specs.Servable.{IsServable}

@@ -19,16 +19,16 @@ use Rattle.fetch_lines.specs.declared.lines.line.Line.{Line}
 use Rattle.fetch_lines.specs.declared.lines.line.Line.TheVariants.{Flush, End}
 use Rattle.fetch_replies.specs.declared.replies.reply.ReplyError.TheVariants.{TooLong}
 use Rattle.fetch_replies.proofs.Moving.{Moves, first_tells, lf_last, moves_tell}
-use Rattle.fetch_serve.specs.declared.asked.Asked.{Asked}
-use Rattle.fetch_serve.specs.declared.asked.Asked.TheVariants.{First, Listing}
-use Rattle.fetch_serve.specs.declared.reading.FetchHead.TheVariants as head
-use Rattle.fetch_serve.specs.declared.reading.ListingPart.TheVariants as listing
-use Rattle.fetch_serve.specs.declared.reading.Reading.{Reading}
-use Rattle.fetch_serve.specs.declared.reading.Reading.TheVariants as reading
+use Rattle.fetch_asked.specs.declared.asked.Asked.{Asked}
+use Rattle.fetch_asked.specs.declared.asked.Asked.TheVariants.{First, Listing}
+use Rattle.fetch_asked.specs.declared.reading.FetchHead.TheVariants as head
+use Rattle.fetch_asked.specs.declared.reading.ListingPart.TheVariants as listing
+use Rattle.fetch_asked.specs.declared.reading.Reading.{Reading}
+use Rattle.fetch_asked.specs.declared.reading.Reading.TheVariants as reading
 use Rattle.fetch_serve.specs.Offered.{capabilities_of}
-use Rattle.fetch_serve.specs.RequestTexts.{is_first_line, peel_word, prefix_word, symrefs_word, unborn_word, upload_word, version_mark}
-use Rattle.fetch_serve.specs.Requests.{IsRequest, asked_step, at_prefix, format_text, if_rising, last_of, start_of}
-use Rattle.fetch_serve.specs.Texts.{request_at, request_bound}
+use Rattle.fetch_asked.specs.RequestTexts.{is_first_line, peel_word, prefix_word, symrefs_word, unborn_word, upload_word, version_mark}
+use Rattle.fetch_asked.specs.Requests.{IsRequest, asked_step, at_prefix, format_text, if_rising, last_of, start_of}
+use Rattle.fetch_asked.specs.Texts.{request_at, request_bound}
 use Rattle.fetch_mirror.specs.Listings.{AreRising}
 use Rattle.fetch_mirror.proofs.Written.{HasNoEnd, text_tells, text_too_long}
 

@@ -10,7 +10,7 @@ use Rattle.std.proofs.lemmas.List.{get_or_at, length-append}
 use Rattle.std.proofs.lemmas.Option.{slice_get-get_or}
 use Rattle.fetch_base.specs.declared.id.ObjectId.{ObjectId}
 use Rattle.fetch_refs.specs.Names.{name_cmp}
-use Rattle.fetch_serve.specs.Requests.{last_of}
+use Rattle.fetch_asked.specs.Requests.{last_of}
 use Rattle.fetch_specs.specs.Categories.{refs}
 use Rattle.fetch_specs.specs.Matches.{has_star}
 use Rattle.fetch_specs.specs.Parses.{head}

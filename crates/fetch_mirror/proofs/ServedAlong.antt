@@ -13,12 +13,12 @@ use Rattle.fetch_replies.specs.declared.replies.reply.ReplyError.{ReplyError}
 use Rattle.fetch_replies.specs.declared.replies.reply.ReplyError.TheVariants.{Short, TooLong}
 use Rattle.fetch_replies.specs.declared.replies.reply.ParsedReply.{ParsedReply}
 use Rattle.fetch_conversation.specs.Conversation.{Conversation, asks}
-use Rattle.fetch_serve.specs.declared.asked.Asked.{Asked}
-use Rattle.fetch_serve.specs.declared.error.ServeError.TheVariants as errors
+use Rattle.fetch_asked.specs.declared.asked.Asked.{Asked}
+use Rattle.fetch_asked.specs.declared.error.ServeError.TheVariants as errors
 use Rattle.fetch_serve.specs.Replies.{replies_of, replies_to, reply_lines, reply_text}
 use Rattle.fetch_serve.specs.Served.{Data}
-use Rattle.fetch_serve.specs.Texts.{AskedIn, and_more, and_others, asked_in, ends_at, joined, request_at, request_bound, with_first}
-use Rattle.fetch_serve.proofs.Asking.{asked_in-more, asked_in-nothing, asked_in-one, asked_in-step}
+use Rattle.fetch_asked.specs.Texts.{AskedIn, and_more, and_others, asked_in, ends_at, joined, request_at, request_bound, with_first}
+use Rattle.fetch_asked.proofs.Asking.{asked_in-more, asked_in-nothing, asked_in-one, asked_in-step}
 use Rattle.fetch_serve.proofs.Growing.{grow, replies_to-append, silent}
 use Rattle.fetch_mirror.specs.Along.{Grows, IsDead}
 use Rattle.fetch_mirror.specs.GoingAlong.{GoesAlong, GoesTo}

@@ -21,7 +21,7 @@ use Rattle.fetch_lines.specs.declared.listings.mapping.RefMap.{RefMap}
 use Rattle.fetch_negotiate.specs.Lists.{firsts}
 use Rattle.fetch_negotiate.specs.Wants.{want_in, wants_of}
 use Rattle.fetch_negotiate.specs.declared.algorithm.Shallow.TheVariants.{NoChange}
-use Rattle.fetch_serve.specs.Requests.{has_id}
+use Rattle.fetch_asked.specs.Requests.{has_id}
 use Rattle.fetch_serve.proofs.Lists.{from_one}
 use Rattle.fetch_serve.proofs.Reached.{filtered, keeps}
 use Rattle.fetch_mirror.specs.Fetches.{AreNew}

@@ -26,13 +26,13 @@ use Rattle.fetch_remote.specs.Form.{Given}
 use Rattle.fetch_remote.specs.Repositories.{State}
 use Rattle.fetch_remote.specs.Stages.{Told, conversation}
 use Rattle.fetch_pack.specs.declared.version.PackVersion.TheVariants.{V2}
-use Rattle.fetch_serve.specs.declared.asked.Asked.TheVariants.{Listing, Fetch}
-use Rattle.fetch_serve.specs.declared.asked.FetchAsked.{FetchAsked}
+use Rattle.fetch_asked.specs.declared.asked.Asked.TheVariants.{Listing, Fetch}
+use Rattle.fetch_asked.specs.declared.asked.FetchAsked.{FetchAsked}
 use Rattle.fetch_serve.specs.Answers.{fetched}
 use Rattle.fetch_serve.specs.Replies.{is_too_large, objects_of, replies_of, reply_lines}
 use Rattle.fetch_serve.specs.Servable.{IsServable}
 use Rattle.fetch_serve.specs.Served.{Data}
-use Rattle.fetch_serve.specs.Texts.{request_bound}
+use Rattle.fetch_asked.specs.Texts.{request_bound}
 use Rattle.fetch_mirror.specs.Born.{born_of}
 use Rattle.fetch_mirror.specs.Fetches.{AreAbove, wanting_behind}
 use Rattle.fetch_mirror.specs.GoingAlong.{GoesAlong}

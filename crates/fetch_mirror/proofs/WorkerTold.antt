@@ -55,17 +55,17 @@ use Rattle.fetch_remote.specs.Form.{Given}
 use Rattle.fetch_remote.specs.Repositories.{State}
 use Rattle.fetch_remote.specs.Stages.{Told, conversation, inquiry_in, pack_stage, terms_in}
 use Rattle.fetch_remote.specs.declared.fetching.fetch_error.FetchError.{FetchError}
-use Rattle.fetch_serve.specs.declared.asked.Asked.{Asked}
-use Rattle.fetch_serve.specs.declared.asked.Asked.TheVariants.{First, Listing, Fetch}
-use Rattle.fetch_serve.specs.declared.asked.FetchAsked.{FetchAsked}
+use Rattle.fetch_asked.specs.declared.asked.Asked.{Asked}
+use Rattle.fetch_asked.specs.declared.asked.Asked.TheVariants.{First, Listing, Fetch}
+use Rattle.fetch_asked.specs.declared.asked.FetchAsked.{FetchAsked}
 use Rattle.fetch_serve.specs.Answers.{fails, fetched, pack_bytes}
 use Rattle.fetch_serve.specs.Offered.{ids_in, offer, offered_ids, offered_of, some_of}
 use Rattle.fetch_serve.specs.Packs.{pack_of, served_of}
 use Rattle.fetch_serve.specs.Replies.{error_lines, fetch_lines, first_unoffered, is_too_large, objects_of, replies_of, reply_lines, too_large}
-use Rattle.fetch_serve.specs.Requests.{has_id}
+use Rattle.fetch_asked.specs.Requests.{has_id}
 use Rattle.fetch_serve.specs.Servable.{IsServable}
 use Rattle.fetch_serve.specs.Served.{Data, references_of}
-use Rattle.fetch_serve.specs.Texts.{request_bound}
+use Rattle.fetch_asked.specs.Texts.{request_bound}
 use Rattle.fetch_serve.proofs.Answered.{answered, pack_read}
 use Rattle.fetch_serve.proofs.Ids.{stored_is}
 use Rattle.fetch_serve.proofs.Lines.{large_fits, pack_fits}

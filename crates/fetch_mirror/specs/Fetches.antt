@@ -20,10 +20,10 @@ use Rattle.fetch_conversation.specs.ConverseStage.{algorithm_in, lacking, no_map
 use Rattle.fetch_conversation.specs.Exchange.{FetchArgumentsValue, asked_by, reply_to}
 use Rattle.fetch_conversation.specs.ListStage.{is_nil}
 use Rattle.fetch_conversation.specs.Rounds.{Negotiated}
-use Rattle.fetch_serve.specs.declared.asked.Asked.TheVariants.{Fetch}
-use Rattle.fetch_serve.specs.declared.asked.FetchAsked.{FetchAsked}
+use Rattle.fetch_asked.specs.declared.asked.Asked.TheVariants.{Fetch}
+use Rattle.fetch_asked.specs.declared.asked.FetchAsked.{FetchAsked}
 use Rattle.fetch_serve.specs.Replies.{reply_lines}
-use Rattle.fetch_serve.specs.Requests.{has_id, is_greater, nothing_asked}
+use Rattle.fetch_asked.specs.Requests.{has_id, is_greater, nothing_asked}
 use Rattle.fetch_serve.specs.Served.{Data}
 use Rattle.fetch_mirror.specs.Listings.{greeting_of}
 use Rattle.fetch_mirror.specs.Settings.{IsRead}

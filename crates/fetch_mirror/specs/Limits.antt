@@ -20,11 +20,11 @@ use Rattle.fetch_conversation.specs.declared.ref_map.Error.TheVariants.{Handshak
 use Rattle.fetch_remote.specs.Errors.{is_free, is_of_peer}
 use Rattle.fetch_remote.specs.Form.{Given}
 use Rattle.fetch_remote.specs.declared.fetching.fetch_error.FetchError.{FetchError}
-use Rattle.fetch_serve.specs.declared.asked.Asked.TheVariants.{First, Listing, Fetch}
+use Rattle.fetch_asked.specs.declared.asked.Asked.TheVariants.{First, Listing, Fetch}
 use Rattle.fetch_serve.specs.Peers.{ServedPeer, faults_of}
 use Rattle.fetch_serve.specs.Replies.{is_too_large, objects_of, reply_lines}
 use Rattle.fetch_serve.specs.Served.{Data}
-use Rattle.fetch_serve.specs.Texts.{request_bound}
+use Rattle.fetch_asked.specs.Texts.{request_bound}
 use Rattle.fetch_mirror.specs.declared.error.MirrorError.{MirrorError}
 use Rattle.fetch_mirror.specs.declared.error.MirrorError.TheVariants as errors
 use Rattle.fetch_mirror.specs.Born.{born_names, born_of}

@@ -14,13 +14,13 @@ use Rattle.fetch_lines.specs.declared.lines.line.Line.{Line}
 use Rattle.fetch_replies.specs.declared.replies.reply.ReplyKind.TheVariants as await
 use Rattle.fetch_replies.specs.declared.replies.reply.ParsedReply.TheVariants as told
 use Rattle.fetch_conversation.specs.ListStage.{LsRefsValue, prefixes_asked, unsendable}
-use Rattle.fetch_serve.specs.declared.asked.Asked.TheVariants.{First, Listing}
+use Rattle.fetch_asked.specs.declared.asked.Asked.TheVariants.{First, Listing}
 use Rattle.fetch_serve.specs.Offered.{capabilities_of, offered_of}
 use Rattle.fetch_serve.specs.Replies.{reply_lines}
-use Rattle.fetch_serve.specs.Requests.{last_of}
+use Rattle.fetch_asked.specs.Requests.{last_of}
 use Rattle.fetch_serve.specs.Servable.{IsServable}
 use Rattle.fetch_serve.specs.Served.{Data}
-use Rattle.fetch_serve.specs.Texts.{request_bound}
+use Rattle.fetch_asked.specs.Texts.{request_bound}
 
 -- what a server of this hash says first
 abbrev pub greeting_of : Kind → Handshake

@@ -4,7 +4,7 @@ use Rattle.fetch_lines.specs.Lines.{line_len}
 use Rattle.fetch_conversation.specs.ListStage.{ListedValue, mapped, no_specs, prefixes_asked}
 use Rattle.fetch_remote.specs.Form.{Given}
 use Rattle.fetch_remote.specs.Stages.{bound_of, inquiry_in}
-use Rattle.fetch_serve.specs.declared.asked.Asked.TheVariants.{First, Listing}
+use Rattle.fetch_asked.specs.declared.asked.Asked.TheVariants.{First, Listing}
 use Rattle.fetch_serve.specs.Offered.{offered_of}
 use Rattle.fetch_serve.specs.Replies.{reply_lines}
 use Rattle.fetch_serve.specs.Served.{Data}

@@ -7,8 +7,8 @@ use Rattle.fetch_store.specs.Closed.{AreAllOf, IsClosed, holding}
 use Rattle.fetch_reach.specs.Named.{AreObjects, AreOwnIds}
 use Rattle.fetch_serve.specs.Servable.{IsObjectTrouble, IsServable, IsTrouble, unservable_names}
 use Rattle.fetch_serve.specs.Served.{Data}
-use Rattle.fetch_serve.specs.declared.error.ServeError.{ServeError}
-use Rattle.fetch_serve.specs.declared.error.ServeError.TheVariants as errors
+use Rattle.fetch_asked.specs.declared.error.ServeError.{ServeError}
+use Rattle.fetch_asked.specs.declared.error.ServeError.TheVariants as errors
 
 none_first : {A : Type 0} (xs : List A) → slice_get xs 0 ≡ None → xs ≡ []
 none_first [] e = refl

@@ -1,13 +1,13 @@
 -- However a text is cut into pieces, and whenever bytes are sent, a server gives the replies to all of it.
 use Rattle.std.proofs.Common.{◌≡◌, ℕ, Bool, false, List, [], ◌∷◌, ◌++◌, take, drop, Option, Some, None, refl, sym, ap, ◌∙◌, append_assoc, subst, take-append-drop}
 use Rattle.std.proofs.lemmas.List.{append-nil}
-use Rattle.fetch_serve.specs.declared.error.ServeError.{ServeError}
+use Rattle.fetch_asked.specs.declared.error.ServeError.{ServeError}
 use Rattle.fetch_serve.specs.Acts.{Act, Does, DoesAll, Feeds, Sends, fed_by}
 use Rattle.fetch_serve.specs.Replies.{replies_of, replies_to}
 use Rattle.fetch_serve.specs.Served.{Data}
 use Rattle.fetch_serve.specs.Servings.{Serving, Takes, unfed}
-use Rattle.fetch_serve.specs.Texts.{AskedIn, and_more, asked_in, joined}
-use Rattle.fetch_serve.proofs.Asking.{asked_in-more, asked_in-nothing}
+use Rattle.fetch_asked.specs.Texts.{AskedIn, and_more, asked_in, joined}
+use Rattle.fetch_asked.proofs.Asking.{asked_in-more, asked_in-nothing}
 use Rattle.fetch_serve.proofs.Growing.{replies_to-append}
 
 -- a server that was fed this text, and has sent these bytes

@@ -38,10 +38,10 @@ use Rattle.fetch_replies.proofs.GreetingLines.{greeting_tells}
 use Rattle.fetch_replies.proofs.ListingLines.{listing_tells}
 use Rattle.fetch_replies.proofs.ReplyLines.{bands_hold, last_tells, round_tells}
 use Rattle.fetch_serve.specs.Answers.{awaits, fails, fetched, pack_bytes, told_of}
-use Rattle.fetch_serve.specs.declared.asked.Asked.{Asked}
-use Rattle.fetch_serve.specs.declared.asked.Asked.TheVariants.{First, Listing, Fetch}
-use Rattle.fetch_serve.specs.declared.asked.DepthAsked.{DepthAsked}
-use Rattle.fetch_serve.specs.declared.asked.FetchAsked.{FetchAsked}
+use Rattle.fetch_asked.specs.declared.asked.Asked.{Asked}
+use Rattle.fetch_asked.specs.declared.asked.Asked.TheVariants.{First, Listing, Fetch}
+use Rattle.fetch_asked.specs.declared.asked.DepthAsked.{DepthAsked}
+use Rattle.fetch_asked.specs.declared.asked.FetchAsked.{FetchAsked}
 use Rattle.fetch_serve.specs.Offered.{capabilities_of, capability, offer, offered_ids, offered_of, peeled_behind, target_of}
 use Rattle.fetch_serve.specs.declared.depth.Move.{Move}
 use Rattle.fetch_serve.specs.declared.depth.Move.TheVariants.{Comes, Leaves}
@@ -50,7 +50,7 @@ use Rattle.fetch_serve.specs.Packs.{known_haves, pack_of, served_of}
 use Rattle.fetch_serve.specs.Replies.{change_in, error_lines, fetch_lines, first_unoffered, is_too_large, is_too_long, not_offered, objects_of, pack_lines, reply_lines, too_large}
 use Rattle.fetch_serve.specs.Servable.{IsServable, end_of, is_long, is_refused as is_lost, is_unlistable}
 use Rattle.fetch_serve.specs.Served.{Data, history_of, references_of}
-use Rattle.fetch_serve.specs.Texts.{request_at}
+use Rattle.fetch_asked.specs.Texts.{request_at}
 use Rattle.fetch_serve.proofs.Ids.{short_id, stored_is}
 use Rattle.fetch_serve.proofs.Fitting.{greeting_fits, listing_fits}
 use Rattle.fetch_serve.proofs.Kept.{kept_commit, moved_kept}
@@ -58,7 +58,7 @@ use Rattle.fetch_serve.proofs.Lines.{AreShort, both_fit, change_fits, large_fits
 use Rattle.fetch_serve.proofs.Names.{full_word, named_once, names_apart, some_apart}
 use Rattle.fetch_serve.proofs.Needed.{served_own, served_rise}
 use Rattle.fetch_serve.proofs.Reached.{filtered}
-use Rattle.fetch_serve.proofs.WantIds.{HasIdsOf, read_ids}
+use Rattle.fetch_asked.proofs.WantIds.{HasIdsOf, read_ids}
 use Rattle.fetch_serve.proofs.References.{IsListed, full_by, id_of, offered_made, offered_one, id_stored, orb, peeled_stored, servable}
 
 -- ---- the greeting

@@ -4,18 +4,18 @@ use Rattle.std.proofs.lemmas.Bool.{cases_lt}
 use Rattle.std.proofs.lemmas.List.{append-nil}
 use Rattle.std.proofs.Math.Seq.{take-append_seam, drop-append_seam, take-add}
 use Rattle.fetch_lines.specs.Talks.{IsFront}
-use Rattle.fetch_serve.specs.declared.asked.Asked.{Asked}
-use Rattle.fetch_serve.specs.declared.intake.Refusal.{Refusal}
-use Rattle.fetch_serve.specs.declared.intake.Refusal.TheVariants as refusals
-use Rattle.fetch_serve.specs.declared.error.ServeError.{ServeError}
-use Rattle.fetch_serve.specs.declared.error.ServeError.TheVariants as errors
-use Rattle.fetch_serve.specs.Intakes.{Incoming, StopsAt, cut_to, fed, is_memory, passed}
+use Rattle.fetch_asked.specs.declared.asked.Asked.{Asked}
+use Rattle.fetch_asked.specs.declared.intake.Refusal.{Refusal}
+use Rattle.fetch_asked.specs.declared.intake.Refusal.TheVariants as refusals
+use Rattle.fetch_asked.specs.declared.error.ServeError.{ServeError}
+use Rattle.fetch_asked.specs.declared.error.ServeError.TheVariants as errors
+use Rattle.fetch_asked.specs.Intakes.{Incoming, StopsAt, cut_to, fed, is_memory, passed}
 use Rattle.fetch_serve.specs.Replies.{replies_to, reply_text}
 use Rattle.fetch_serve.specs.Served.{Data}
 use Rattle.fetch_base.specs.declared.id.Kind.{Kind}
 use Rattle.fetch_serve.specs.Servings.{RefusesBy, Takes, state_of}
-use Rattle.fetch_serve.specs.Texts.{AskedIn, IsBegun, asked_in, and_others, ends_at, joined, request_at, request_bound, with_first}
-use Rattle.fetch_serve.proofs.Asking.{asked_in-begun, asked_in-nothing, asked_in-one, asked_in-step, one, shorter}
+use Rattle.fetch_asked.specs.Texts.{AskedIn, IsBegun, asked_in, and_others, ends_at, joined, request_at, request_bound, with_first}
+use Rattle.fetch_asked.proofs.Asking.{asked_in-begun, asked_in-nothing, asked_in-one, asked_in-step, one, shorter}
 use Rattle.fetch_serve.proofs.Growing.{replies_to-append}
 
 -- What is left of the bytes, and what was given, once some requests were answered. Where memory runs out next, the first

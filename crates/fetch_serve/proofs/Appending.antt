@@ -21,8 +21,8 @@ use Rattle.fetch_lines.specs.declared.lines.line.Line.{Line}
 use Rattle.fetch_lines.specs.declared.lines.line.Line.TheVariants.{Payload, Flush, Delim}
 use Rattle.fetch_lines.specs.RequestLines.{id_lines}
 use Rattle.fetch_lines.specs.Requests.{sent, text_line}
-use Rattle.fetch_serve.specs.declared.asked.DepthAsked.{DepthAsked}
-use Rattle.fetch_serve.specs.declared.asked.FetchAsked.{FetchAsked}
+use Rattle.fetch_asked.specs.declared.asked.DepthAsked.{DepthAsked}
+use Rattle.fetch_asked.specs.declared.asked.FetchAsked.{FetchAsked}
 use Rattle.fetch_serve.specs.declared.depth.Depth.{Depth}
 use Rattle.fetch_serve.specs.Depths.{depth_of}
 use Rattle.fetch_serve.specs.Packs.{known_haves, served_of, stored_in}

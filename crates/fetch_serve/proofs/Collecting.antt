@@ -22,12 +22,12 @@ use Rattle.fetch_reach.specs.Stored.{objects_at}
 use Rattle.fetch_refs.specs.Leading.{next_tag}
 use Rattle.fetch_lines.specs.References.{id_in, name_in, peeled_in}
 use Rattle.fetch_lines.specs.declared.listings.reference.Ref.{Ref}
-use Rattle.fetch_serve.specs.declared.asked.FetchAsked.{FetchAsked}
+use Rattle.fetch_asked.specs.declared.asked.FetchAsked.{FetchAsked}
 use Rattle.fetch_serve.specs.Offered.{offered_of}
 use Rattle.fetch_serve.specs.declared.depth.Depth.{Depth}
 use Rattle.fetch_serve.specs.Depths.{border_of, parents_in}
 use Rattle.fetch_serve.specs.Packs.{IsNeeded, is_needed, is_some_of, known_haves, seen_by, served_at, starts_of, tags_along, tags_at, tags_from, tags_of, tags_prefix}
-use Rattle.fetch_serve.specs.Requests.{has_id}
+use Rattle.fetch_asked.specs.Requests.{has_id}
 use Rattle.fetch_serve.specs.Servable.{IsServable}
 use Rattle.fetch_serve.specs.Served.{Data, history_of}
 use Rattle.fetch_serve.proofs.Lists.{each_same}

@@ -1,12 +1,12 @@
 -- Replies grow request by request.
 use Rattle.std.proofs.Common.{◌≡◌, ℕ, Bool, false, true, List, [], ◌∷◌, ◌++◌, Option, Some, None, Ok, refl, sym, ap, ◌∙◌, append_assoc}
 use Rattle.std.proofs.lemmas.List.{append-nil}
-use Rattle.fetch_serve.specs.declared.asked.Asked.{Asked}
-use Rattle.fetch_serve.specs.declared.error.ServeError.{ServeError}
+use Rattle.fetch_asked.specs.declared.asked.Asked.{Asked}
+use Rattle.fetch_asked.specs.declared.error.ServeError.{ServeError}
 use Rattle.fetch_serve.specs.Replies.{replies_of, replies_to, reply_text}
 use Rattle.fetch_serve.specs.Served.{Data}
-use Rattle.fetch_serve.specs.Texts.{AskedIn, and_more, asked_in, request_at}
-use Rattle.fetch_serve.proofs.Asking.{asked_in-more, asked_in-nothing, asked_in-one}
+use Rattle.fetch_asked.specs.Texts.{AskedIn, and_more, asked_in, request_at}
+use Rattle.fetch_asked.proofs.Asking.{asked_in-more, asked_in-nothing, asked_in-one}
 
 pub replies_to-append : (d : Data) (first second : List Asked) → replies_to d (first ++ second) ≡ replies_to d first ++ replies_to d second
 replies_to-append d [] second = refl

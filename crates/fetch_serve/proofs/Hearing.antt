@@ -13,19 +13,19 @@ use Rattle.fetch_replies.specs.declared.replies.reply.ReplyError.TheVariants.{Sh
 use Rattle.fetch_lines.specs.declared.peer.SendFault.{SendFault}
 use Rattle.fetch_lines.specs.declared.peer.SendFault.TheVariants as sending
 use Rattle.fetch_replies.proofs.ReadBack.{told_were}
-use Rattle.fetch_serve.specs.declared.asked.Asked.{Asked}
-use Rattle.fetch_serve.specs.declared.error.ServeError.{ServeError}
-use Rattle.fetch_serve.specs.declared.error.ServeError.TheVariants as errors
-use Rattle.fetch_serve.specs.declared.intake.Refusal.{Refusal}
-use Rattle.fetch_serve.specs.declared.intake.Refusal.TheVariants as refusals
+use Rattle.fetch_asked.specs.declared.asked.Asked.{Asked}
+use Rattle.fetch_asked.specs.declared.error.ServeError.{ServeError}
+use Rattle.fetch_asked.specs.declared.error.ServeError.TheVariants as errors
+use Rattle.fetch_asked.specs.declared.intake.Refusal.{Refusal}
+use Rattle.fetch_asked.specs.declared.intake.Refusal.TheVariants as refusals
 use Rattle.fetch_serve.specs.Hearing.{Hears, IsShown, fault_of}
-use Rattle.fetch_serve.specs.Intakes.{error_of}
+use Rattle.fetch_asked.specs.Intakes.{error_of}
 use Rattle.fetch_serve.specs.Replies.{replies_to}
-use Rattle.fetch_serve.specs.Requests.{asked_step, start_of}
+use Rattle.fetch_asked.specs.Requests.{asked_step, start_of}
 use Rattle.fetch_serve.specs.Served.{Data}
 use Rattle.fetch_serve.specs.Servings.{FeedsBy, RefusesBy, Serving, Takes}
-use Rattle.fetch_serve.specs.Texts.{AskedIn, IsBegun, and_more, and_others, asked_in, joined, request_at, request_bound}
-use Rattle.fetch_serve.proofs.Asking.{asked_in-begun, asked_in-more, asked_in-nothing, asked_in-step, one}
+use Rattle.fetch_asked.specs.Texts.{AskedIn, IsBegun, and_more, and_others, asked_in, joined, request_at, request_bound}
+use Rattle.fetch_asked.proofs.Asking.{asked_in-begun, asked_in-more, asked_in-nothing, asked_in-step, one}
 use Rattle.fetch_serve.proofs.Growing.{replies_to-append}
 
 -- ---- one piece after another

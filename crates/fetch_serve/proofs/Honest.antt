@@ -26,13 +26,13 @@ use Rattle.fetch_store.proofs.Reaching.{All-Contains, reached_closed, reached_ne
 use Rattle.fetch_reach.specs.Stored.{entries_at, entry_at}
 use Rattle.fetch_reach.specs.Whole.{with_haves}
 use Rattle.fetch_reach.proofs.Leaving.{still_honest}
-use Rattle.fetch_serve.specs.declared.asked.FetchAsked.{FetchAsked}
+use Rattle.fetch_asked.specs.declared.asked.FetchAsked.{FetchAsked}
 use Rattle.fetch_serve.specs.Offered.{offered_ids}
 use Rattle.fetch_serve.specs.declared.depth.Depth.{Depth}
 use Rattle.fetch_serve.specs.Depths.{IsDepth, border_of}
 use Rattle.fetch_serve.specs.Packs.{IsClient, IsNeeded, IsTagOnTheWay, is_reached, known_haves, pack_at, seen_after, seen_by, served_at, starts_of}
 use Rattle.fetch_serve.specs.Replies.{first_unoffered}
-use Rattle.fetch_serve.specs.Requests.{has_id}
+use Rattle.fetch_asked.specs.Requests.{has_id}
 use Rattle.fetch_serve.specs.Servable.{IsServable}
 use Rattle.fetch_serve.specs.Served.{Data, history_of}
 use Rattle.fetch_serve.proofs.Lists.{fails, from_one, none_first}

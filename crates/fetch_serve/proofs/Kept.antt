@@ -23,15 +23,15 @@ use Rattle.fetch_store.proofs.Graphs.{get-graph_of}
 use Rattle.fetch_base.proofs.Ids.{id_cmp_total}
 use Rattle.fetch_store.proofs.Keys.{keys-rise}
 use Rattle.fetch_store.proofs.Members.{none_in}
-use Rattle.fetch_serve.specs.declared.asked.DepthAsked.{DepthAsked}
-use Rattle.fetch_serve.specs.declared.asked.DepthAsked.TheVariants.{Deepen, Limits}
-use Rattle.fetch_serve.specs.declared.asked.FetchAsked.{FetchAsked}
+use Rattle.fetch_asked.specs.declared.asked.DepthAsked.{DepthAsked}
+use Rattle.fetch_asked.specs.declared.asked.DepthAsked.TheVariants.{Deepen, Limits}
+use Rattle.fetch_asked.specs.declared.asked.FetchAsked.{FetchAsked}
 use Rattle.fetch_serve.specs.declared.depth.Move.{Move}
 use Rattle.fetch_serve.specs.declared.depth.Move.TheVariants.{Comes, Leaves}
 use Rattle.fetch_serve.specs.declared.depth.Way.{Way}
 use Rattle.fetch_serve.specs.declared.depth.Way.TheVariants as ways
 use Rattle.fetch_serve.specs.Depths.{IsDepth, IsKeptBy, are_parents_among, border_of, depth_of, either_of, excluded_by, is_moved, kept_by, kept_of, led_to, limited_steps, may_be_kept, met_of, moved_of, near_of, parent_steps, parents_in, roots_of, shallow_of, steps_to, steps_within, unshallow_of}
-use Rattle.fetch_serve.specs.Requests.{has_id}
+use Rattle.fetch_asked.specs.Requests.{has_id}
 use Rattle.fetch_serve.specs.Served.{Data, history_of}
 use Rattle.fetch_serve.specs.Ways.{steps_by}
 use Rattle.fetch_serve.proofs.Lists.{same_ids}

@@ -1,7 +1,3 @@
-pub mod Digits
-pub mod Consumed
-pub mod Asking
-pub mod Intakes
 pub mod Growing
 pub mod Answering
 pub mod Accepted
@@ -20,7 +16,6 @@ pub mod Ids
 pub mod Names
 pub mod Lines
 pub mod Answered
-pub mod WantIds
 pub mod Collecting
 pub mod Appending
 pub mod Hearing

@@ -19,11 +19,11 @@ use Rattle.fetch_base.proofs.Ids.{id_cmp_exact, id_cmp_total}
 use Rattle.fetch_store.proofs.Keys.{keys-rise}
 use Rattle.fetch_store.proofs.Merges.{contains-merged}
 use Rattle.fetch_reach.specs.Named.{AreOwnIds, IsOwnId}
-use Rattle.fetch_serve.specs.declared.asked.FetchAsked.{FetchAsked}
+use Rattle.fetch_asked.specs.declared.asked.FetchAsked.{FetchAsked}
 use Rattle.fetch_serve.specs.declared.depth.Depth.{Depth}
 use Rattle.fetch_serve.specs.Depths.{border_of}
 use Rattle.fetch_serve.specs.Packs.{IsNeeded, IsServedAt, IsTagOnTheWay, is_needed, known_haves, seen_after, seen_by, served_at, starts_of, tags_along}
-use Rattle.fetch_serve.specs.Requests.{has_id}
+use Rattle.fetch_asked.specs.Requests.{has_id}
 use Rattle.fetch_serve.specs.Servable.{IsServable}
 use Rattle.fetch_serve.specs.Served.{Data, history_of}
 use Rattle.fetch_serve.proofs.Lists.{same_ids}

@@ -8,18 +8,18 @@ use Rattle.fetch_base.specs.declared.failed.Failed.{Failed}
 use Rattle.fetch_lines.specs.Talks.{IsDrained, Makes, Passes, Receive, Receives, Sends, Talk, Talks, at_once, behind}
 use Rattle.fetch_lines.specs.declared.peer.SendFault.{SendFault}
 use Rattle.fetch_lines.specs.declared.peer.SendFault.TheVariants as sending
-use Rattle.fetch_serve.specs.declared.error.ServeError.{ServeError}
-use Rattle.fetch_serve.specs.declared.intake.Refusal.{Refusal}
-use Rattle.fetch_serve.specs.declared.intake.Refusal.TheVariants as refusals
+use Rattle.fetch_asked.specs.declared.error.ServeError.{ServeError}
+use Rattle.fetch_asked.specs.declared.intake.Refusal.{Refusal}
+use Rattle.fetch_asked.specs.declared.intake.Refusal.TheVariants as refusals
 use Rattle.fetch_serve.specs.declared.peer.Said.{Said}
 use Rattle.fetch_serve.specs.Hearing.{Hears, IsShown, fault_of}
 use Rattle.fetch_serve.specs.Peers.{IsFed, IsGoing, IsSaid, ServedPeer, faults_of, heard_by, is_troubled, receive_at, talk_with, told_by}
 use Rattle.fetch_serve.specs.Replies.{replies_of, replies_to}
 use Rattle.fetch_serve.specs.Served.{Data}
 use Rattle.fetch_serve.specs.Servings.{Serving, Takes, unfed}
-use Rattle.fetch_serve.specs.Texts.{AskedIn, and_more, asked_in}
+use Rattle.fetch_asked.specs.Texts.{AskedIn, and_more, asked_in}
 use Rattle.fetch_serve.proofs.Acting.{IsAt, asks_on, feeds, gives_on}
-use Rattle.fetch_serve.proofs.Asking.{asked_in-more, asked_in-nothing}
+use Rattle.fetch_asked.proofs.Asking.{asked_in-more, asked_in-nothing}
 
 -- ---- what is told
 

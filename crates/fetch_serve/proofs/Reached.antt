@@ -14,7 +14,7 @@ use Rattle.fetch_base.proofs.Ids.{id_cmp_exact}
 use Rattle.fetch_store.proofs.Members.{first_in, later_in, cases_in, none_in}
 use Rattle.fetch_store.proofs.Pigeons.{AreDistinct, AreStored, no_more}
 use Rattle.fetch_store.proofs.Reaching.{reached_next, reached_start}
-use Rattle.fetch_serve.specs.declared.asked.FetchAsked.{FetchAsked}
+use Rattle.fetch_asked.specs.declared.asked.FetchAsked.{FetchAsked}
 use Rattle.fetch_serve.specs.declared.depth.Depth.{Depth}
 use Rattle.fetch_serve.specs.Depths.{border_of}
 use Rattle.fetch_serve.specs.Packs.{IsNeeded, is_needed, is_reached, known_haves, reached_within, seen_after, seen_by, starts_of, stored_in}

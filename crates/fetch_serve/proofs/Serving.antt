@@ -2,15 +2,15 @@
 use Rattle.std.proofs.Common.{◌≡◌, ℕ, ◌≤◌, false, List, [], ◌∷◌, ◌++◌, length, drop, Option, None, refl, ap, ◌∙◌, arith}
 use Rattle.std.specs.Prelude.{is_some}
 use Rattle.std.proofs.lemmas.List.{drop-append-le}
-use Rattle.fetch_serve.specs.declared.intake.Refusal.{Refusal}
-use Rattle.fetch_serve.specs.declared.intake.Refusal.TheVariants as refusals
-use Rattle.fetch_serve.specs.declared.error.ServeError.{ServeError}
+use Rattle.fetch_asked.specs.declared.intake.Refusal.{Refusal}
+use Rattle.fetch_asked.specs.declared.intake.Refusal.TheVariants as refusals
+use Rattle.fetch_asked.specs.declared.error.ServeError.{ServeError}
 use Rattle.fetch_serve.specs.declared.server.ServeTurn.TheVariants as turns
-use Rattle.fetch_serve.specs.Intakes.{Incoming}
+use Rattle.fetch_asked.specs.Intakes.{Incoming}
 use Rattle.fetch_serve.specs.Replies.{replies_to}
 use Rattle.fetch_serve.specs.Served.{Data}
 use Rattle.fetch_serve.specs.Servings.{RefusesBy, Serving, Takes, state_of, turn_for, turn_of}
-use Rattle.fetch_serve.specs.Texts.{asked_in}
+use Rattle.fetch_asked.specs.Texts.{asked_in}
 
 some_bytes : (bytes : List ℕ) → 1 ≤ length bytes → turns.Send ≡ turn_for bytes
 some_bytes [] le = absurd (omega arith)

@@ -20,7 +20,7 @@ use Rattle.fetch_store.proofs.Pigeons.{AreStored, are_distinct, no_more}
 use Rattle.fetch_store.proofs.TagTexts.{tags_are_texts}
 use Rattle.fetch_reach.specs.Named.{AreObjects}
 use Rattle.fetch_lines.specs.References.{id_in, name_in, peeled_in}
-use Rattle.fetch_serve.specs.declared.asked.FetchAsked.{FetchAsked}
+use Rattle.fetch_asked.specs.declared.asked.FetchAsked.{FetchAsked}
 use Rattle.fetch_serve.specs.Offered.{offered_of}
 use Rattle.fetch_serve.specs.declared.depth.Depth.{Depth}
 use Rattle.fetch_serve.specs.Packs.{IsTagOnTheWay, is_needed, is_some_of, is_tag_to, tags_along, tags_at, tags_from, tags_of, tags_prefix}

@@ -17,7 +17,7 @@ use Rattle.fetch_store.proofs.Members.{cases_in, none_in}
 use Rattle.fetch_store.proofs.Pigeons.{AreDistinct, AreStored, no_more}
 use Rattle.fetch_store.proofs.Spreading.{within_more, within_none}
 use Rattle.fetch_serve.specs.Depths.{led_to, led_within, steps_for}
-use Rattle.fetch_serve.specs.Requests.{has_id}
+use Rattle.fetch_asked.specs.Requests.{has_id}
 use Rattle.fetch_serve.proofs.Lists.{same_ids}
 use Rattle.fetch_serve.proofs.Reached.{filtered, in_either, in_first, in_second, keeps, met, of_one, one_of}
 

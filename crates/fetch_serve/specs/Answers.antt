@@ -8,9 +8,9 @@ use Rattle.fetch_replies.specs.declared.replies.reply.ReplyKind.TheVariants as a
 use Rattle.fetch_replies.specs.declared.replies.reply.ParsedReply.{ParsedReply}
 use Rattle.fetch_replies.specs.declared.replies.reply.ParsedReply.TheVariants as told
 use Rattle.fetch_lines.specs.declared.requests.records.FetchReply.{FetchReply}
-use Rattle.fetch_serve.specs.declared.asked.Asked.{Asked}
-use Rattle.fetch_serve.specs.declared.asked.Asked.TheVariants.{First, Listing, Fetch}
-use Rattle.fetch_serve.specs.declared.asked.FetchAsked.{FetchAsked}
+use Rattle.fetch_asked.specs.declared.asked.Asked.{Asked}
+use Rattle.fetch_asked.specs.declared.asked.Asked.TheVariants.{First, Listing, Fetch}
+use Rattle.fetch_asked.specs.declared.asked.FetchAsked.{FetchAsked}
 use Rattle.fetch_serve.specs.Offered.{capabilities_of, offered_of}
 use Rattle.fetch_serve.specs.Packs.{known_haves}
 use Rattle.fetch_serve.specs.Replies.{change_in, first_unoffered, is_too_large, objects_of, pack_with}

@@ -14,14 +14,14 @@ use Rattle.fetch_store.specs.Spread.{Nexts, IsWithin, next_to}
 use Rattle.fetch_base.specs.declared.id.ObjectId.{ObjectId}
 use Rattle.fetch_lines.specs.References.{name_in}
 use Rattle.fetch_lines.specs.declared.listings.reference.Ref.{Ref}
-use Rattle.fetch_serve.specs.declared.asked.DepthAsked.{DepthAsked}
-use Rattle.fetch_serve.specs.declared.asked.DepthAsked.TheVariants.{Deepen, Limits}
-use Rattle.fetch_serve.specs.declared.asked.FetchAsked.{FetchAsked}
+use Rattle.fetch_asked.specs.declared.asked.DepthAsked.{DepthAsked}
+use Rattle.fetch_asked.specs.declared.asked.DepthAsked.TheVariants.{Deepen, Limits}
+use Rattle.fetch_asked.specs.declared.asked.FetchAsked.{FetchAsked}
 use Rattle.fetch_serve.specs.declared.depth.Depth.{Depth}
 use Rattle.fetch_serve.specs.declared.depth.Move.{Move}
 use Rattle.fetch_serve.specs.declared.depth.Move.TheVariants.{Comes, Leaves}
 use Rattle.fetch_serve.specs.Offered.{ids_in, offered_of, peeled_from}
-use Rattle.fetch_serve.specs.Requests.{has_id}
+use Rattle.fetch_asked.specs.Requests.{has_id}
 use Rattle.fetch_serve.specs.Served.{Data, history_of}
 
 -- the border that the client sent

@@ -2,11 +2,11 @@
 use Rattle.std.specs.Prelude.{◌≡◌, ℕ, ◌-◌, ◌<◌, ◌≤◌, List, ◌++◌, length, take, Option, Some, None, Result, Ok, Err}
 use Rattle.fetch_lines.specs.declared.peer.SendFault.{SendFault}
 use Rattle.fetch_lines.specs.declared.peer.SendFault.TheVariants as sending
-use Rattle.fetch_serve.specs.declared.error.ServeError.{ServeError}
-use Rattle.fetch_serve.specs.declared.intake.Refusal.{Refusal}
-use Rattle.fetch_serve.specs.declared.intake.Refusal.TheVariants as refusals
+use Rattle.fetch_asked.specs.declared.error.ServeError.{ServeError}
+use Rattle.fetch_asked.specs.declared.intake.Refusal.{Refusal}
+use Rattle.fetch_asked.specs.declared.intake.Refusal.TheVariants as refusals
 use Rattle.fetch_serve.specs.Servings.{Serving, Takes}
-use Rattle.fetch_serve.specs.Texts.{asked_in}
+use Rattle.fetch_asked.specs.Texts.{asked_in}
 
 -- a refusal, as a peer tells it
 abbrev pub fault_of : Refusal → SendFault

@@ -1,15 +1,10 @@
 pub mod Served
 pub mod Parts
-pub mod RequestTexts
-pub mod Requests
-pub mod Reads
-pub mod Texts
 pub mod Servable
 pub mod Offered
 pub mod Depths
 pub mod Ways
 pub mod Packs
-pub mod Intakes
 pub mod Replies
 pub mod Answers
 pub mod Servings

@@ -17,11 +17,11 @@ use Rattle.fetch_refs.specs.Leading.{IsTagWay, next_tag}
 use Rattle.fetch_reach.specs.Stored.{entries_at}
 use Rattle.fetch_lines.specs.References.{id_in, name_in, peeled_in}
 use Rattle.fetch_lines.specs.declared.listings.reference.Ref.{Ref}
-use Rattle.fetch_serve.specs.declared.asked.FetchAsked.{FetchAsked}
+use Rattle.fetch_asked.specs.declared.asked.FetchAsked.{FetchAsked}
 use Rattle.fetch_serve.specs.declared.depth.Depth.{Depth}
 use Rattle.fetch_serve.specs.Depths.{border_of, depth_of}
 use Rattle.fetch_serve.specs.Offered.{offered_of}
-use Rattle.fetch_serve.specs.Requests.{has_id}
+use Rattle.fetch_asked.specs.Requests.{has_id}
 use Rattle.fetch_serve.specs.Served.{Data, history_of}
 
 -- ---- what is reached

@@ -10,9 +10,9 @@ use Rattle.fetch_lines.specs.declared.peer.SendFault.TheVariants as sending
 use Rattle.fetch_serve.specs.Replies.{replies_of}
 use Rattle.fetch_serve.specs.Served.{Data}
 use Rattle.fetch_serve.specs.Servings.{Serving, coded_data}
-use Rattle.fetch_serve.specs.declared.intake.Refusal.{Refusal}
-use Rattle.fetch_serve.specs.declared.intake.Refusal.TheVariants as refusals
-use Rattle.fetch_serve.specs.Texts.{asked_in}
+use Rattle.fetch_asked.specs.declared.intake.Refusal.{Refusal}
+use Rattle.fetch_asked.specs.declared.intake.Refusal.TheVariants as refusals
+use Rattle.fetch_asked.specs.Texts.{asked_in}
 
 -- What it serves, what it heard, how many bytes of its replies are still to be given, its receives, and how often it refused
 -- what it was sent.

@@ -13,16 +13,16 @@ use Rattle.fetch_lines.specs.Requests.{text_line}
 use Rattle.fetch_lines.specs.ServerLines.{BorderChange, bands_of, greeting_lines, last_lines, listing_lines_of, round_lines}
 use Rattle.fetch_lines.specs.Written.{lines_text}
 use Rattle.fetch_lines.specs.declared.lines.line.Line.{Line}
-use Rattle.fetch_serve.specs.declared.asked.Asked.{Asked}
-use Rattle.fetch_serve.specs.declared.asked.Asked.TheVariants.{First, Listing, Fetch}
-use Rattle.fetch_serve.specs.declared.asked.FetchAsked.{FetchAsked}
-use Rattle.fetch_serve.specs.declared.asked.DepthAsked.{DepthAsked}
+use Rattle.fetch_asked.specs.declared.asked.Asked.{Asked}
+use Rattle.fetch_asked.specs.declared.asked.Asked.TheVariants.{First, Listing, Fetch}
+use Rattle.fetch_asked.specs.declared.asked.FetchAsked.{FetchAsked}
+use Rattle.fetch_asked.specs.declared.asked.DepthAsked.{DepthAsked}
 use Rattle.fetch_serve.specs.Offered.{capabilities_of, offered_ids, offered_of}
 use Rattle.fetch_serve.specs.Depths.{shallow_of, unshallow_of}
 use Rattle.fetch_serve.specs.Packs.{known_haves, served_of}
-use Rattle.fetch_serve.specs.Requests.{has_id}
+use Rattle.fetch_asked.specs.Requests.{has_id}
 use Rattle.fetch_serve.specs.Served.{Data}
-use Rattle.fetch_serve.specs.Texts.{asked_in}
+use Rattle.fetch_asked.specs.Texts.{asked_in}
 
 -- the one line of a server that fails
 abbrev pub error_lines : List ℕ → List Line

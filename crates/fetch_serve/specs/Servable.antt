@@ -16,8 +16,8 @@ use Rattle.fetch_refs.specs.declared.target.Target.{Target}
 use Rattle.fetch_refs.specs.declared.target.Target.TheVariants.{Object, Symbolic}
 use Rattle.fetch_specs.specs.Names.{is_full_name}
 use Rattle.fetch_reach.specs.Named.{AreObjects, AreOwnIds, IsFirstMisnamed}
-use Rattle.fetch_serve.specs.declared.error.ServeError.{ServeError}
-use Rattle.fetch_serve.specs.declared.error.ServeError.TheVariants as errors
+use Rattle.fetch_asked.specs.declared.error.ServeError.{ServeError}
+use Rattle.fetch_asked.specs.declared.error.ServeError.TheVariants as errors
 use Rattle.fetch_serve.specs.Served.{Data, history_of, references_of}
 
 -- what an id leads to through tags

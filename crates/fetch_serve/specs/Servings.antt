@@ -11,17 +11,17 @@ use Rattle.fetch_store.specs.Stores.{ObjectMap}
 use Rattle.fetch_base.specs.Id.{id_cmp}
 use Rattle.fetch_base.specs.declared.id.Kind.{Kind}
 use Rattle.fetch_lines.specs.Talks.{IsFront}
-use Rattle.fetch_serve.specs.declared.error.ServeError.{ServeError}
-use Rattle.fetch_serve.specs.declared.error.ServeError.TheVariants as errors
-use Rattle.fetch_serve.specs.declared.intake.Refusal.{Refusal}
-use Rattle.fetch_serve.specs.declared.intake.Refusal.TheVariants as refusals
-use Rattle.fetch_serve.specs.Intakes.{Incoming, error_of}
+use Rattle.fetch_asked.specs.declared.error.ServeError.{ServeError}
+use Rattle.fetch_asked.specs.declared.error.ServeError.TheVariants as errors
+use Rattle.fetch_asked.specs.declared.intake.Refusal.{Refusal}
+use Rattle.fetch_asked.specs.declared.intake.Refusal.TheVariants as refusals
+use Rattle.fetch_asked.specs.Intakes.{Incoming, error_of}
 use Rattle.fetch_serve.specs.Replies.{replies_to}
 use Rattle.fetch_serve.specs.declared.server.ServeTurn.{ServeTurn}
 use Rattle.fetch_serve.specs.declared.server.ServeTurn.TheVariants as turns
 use Rattle.fetch_serve.specs.Servable.{IsServable}
 use Rattle.fetch_serve.specs.Served.{Data}
-use Rattle.fetch_serve.specs.Texts.{IsBegun, asked_in}
+use Rattle.fetch_asked.specs.Texts.{IsBegun, asked_in}
 
 -- What is served, whether the first line of the conversation was answered, the bytes behind the last request, those to be
 -- sent, and why more bytes are refused.

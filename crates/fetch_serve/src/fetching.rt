@@ -16,7 +16,6 @@ ghost use Rattle.fetch_lines.specs.RequestLines.{id_lines};
 ghost use Rattle.fetch_lines.specs.Requests.{sent, text_line};
 ghost use Rattle.fetch_lines.specs.Written.{line_text, lines_text};
 
-use crate::asked::FetchAsked;
 use crate::bands::append_bands;
 use crate::depth::{Depth, decided};
 use crate::limits::is_too_large;
@@ -24,6 +23,7 @@ use crate::offered::{Wanted, first_unoffered, offered};
 use crate::parts::Parts;
 use crate::replying::{append_line, append_lines};
 use crate::served::{border_of, known, served};
+use fetch_asked::FetchAsked;
 use fetch_lines::{LineRef, Ref, round_lines};
 use fetch_reach::write_stored;
 use fetch_store::{NoMemory, ObjectId, append_hex};

@@ -15,37 +15,23 @@ ghost use Rattle.fetch_serve.specs.Replies.{reply_text};
 ghost use Rattle.fetch_serve.specs.Servable.{IsServable};
 ghost use Rattle.fetch_serve.specs.Served.{Data};
 ghost use Rattle.fetch_serve.specs.Servings.{Serving, Takes, unfed};
-ghost use Rattle.fetch_serve.specs.Texts.{IsBegun, and_more, asked_in, ends_at, request_at, with_first};
-ghost use Rattle.fetch_serve.specs.declared.asked.Asked.{Asked};
-ghost use Rattle.fetch_serve.specs.declared.asked.FetchAsked.{FetchAsked};
+ghost use Rattle.fetch_asked.specs.Texts.{asked_in, request_at};
+ghost use Rattle.fetch_asked.specs.declared.asked.Asked.{Asked};
+ghost use Rattle.fetch_asked.specs.declared.asked.FetchAsked.{FetchAsked};
 ghost use Rattle.fetch_serve.specs.declared.depth.Depth.{Depth};
-ghost use Rattle.fetch_serve.specs.declared.error.ServeError.{ServeError};
+ghost use Rattle.fetch_asked.specs.declared.error.ServeError.{ServeError};
 ghost use Rattle.fetch_store.specs.Closed.{Holding, Reached};
 ghost use Rattle.fetch_store.specs.Graph.{Graph};
 ghost use Rattle.fetch_base.specs.Hashing as hashing;
 ghost use Rattle.fetch_store.specs.Honest.{IsHonest};
 ghost use Rattle.fetch_store.specs.Spread.{IsWithin, Nexts};
 ghost use Rattle.fetch_base.specs.Id.{id_cmp};
-ghost use Rattle.fetch_base.specs.declared.id.Kind.{Kind};
 ghost use Rattle.fetch_base.specs.declared.id.ObjectId.{ObjectId as Id};
 ghost use Rattle.fetch_replies.specs.Awaited.{start_of, step_of};
 ghost use Rattle.fetch_replies.specs.LinesTold.{Tells};
 ghost use Rattle.fetch_lines.specs.Written.{first_too_long};
 
-/// What a text asks stays when more bytes come: they are read on behind it, and behind a line that can't stand nothing is
-/// read. So it doesn't matter how a text is cut into pieces.
-pub fn what_is_asked_stays()
-    ensures { (hash : Kind) (begun : Bool) (text more : List ℕ) →
-        asked_in hash begun (text ++ more) ≡ and_more hash more (asked_in hash begun text) (asked_in hash begun text).trouble }
-{}
-
-/// A text is its first request and those behind it; of the beginning of a request nothing is whole.
-pub fn requests_come_one_by_one()
-    ensures first { (hash : Kind) (begun : Bool) (text rest : List ℕ) (asked : Asked) →
-        request_at hash begun text ≡ Ok (asked, rest) → asked_in hash begun text ≡ with_first asked (asked_in hash true rest) }
-    ensures begun { (hash : Kind) (begun : Bool) (text : List ℕ) → IsBegun hash begun text
-        → asked_in hash begun text ≡ ends_at begun text None }
-{}
+pub use fetch_asked::laws::{requests_come_one_by_one, what_is_asked_stays};
 
 /// Before anything was heard nothing is said.
 pub fn nothing_is_said_first()

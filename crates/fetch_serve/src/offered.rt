@@ -11,7 +11,7 @@ ghost use Rattle.fetch_refs.specs.TagEnds.{AreEnds};
 ghost use Rattle.fetch_refs.specs.Targets.{seen};
 ghost use Rattle.fetch_serve.specs.Offered as spec;
 ghost use Rattle.fetch_serve.specs.Parts.{held_by};
-ghost use Rattle.fetch_serve.specs.Requests.{has_id};
+ghost use Rattle.fetch_asked.specs.Requests.{has_id};
 ghost use Rattle.fetch_store.specs.Borders.{set_of};
 ghost use Rattle.fetch_store.specs.Graph.{graph_of};
 ghost use Rattle.fetch_base.specs.Id.{id_cmp};

@@ -6,13 +6,12 @@ ghost use Rattle.fetch_serve.specs.Hearing.{Hears, fault_of};
 ghost use Rattle.fetch_serve.specs.Peers.{count_after, faults_of, told_by};
 ghost use Rattle.fetch_serve.specs.Replies.{replies_of};
 ghost use Rattle.fetch_serve.specs.Servings.{unfed};
-ghost use Rattle.fetch_serve.specs.declared.error.ServeError.TheVariants as errors;
+ghost use Rattle.fetch_asked.specs.declared.error.ServeError.TheVariants as errors;
 ghost use Rattle.fetch_base.specs.Faults.{Counts, Rose};
 ghost use Rattle.fetch_lines.specs.Talks.{Makes, Receives, Sends, at_once};
 
-use crate::error::ServeError;
-use crate::intake::Refusal;
 use crate::server::Server;
+use fetch_asked::{Refusal, ServeError};
 use fetch_lines::{Peer, SendFault};
 use fetch_store::{Failed, copy_from};
 use opening_value::Openings;

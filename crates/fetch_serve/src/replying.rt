@@ -11,10 +11,10 @@ ghost use Rattle.fetch_lines.specs.Requests as requests;
 ghost use Rattle.fetch_lines.specs.ServerLines as lines;
 ghost use Rattle.fetch_lines.specs.Written.{first_too_long, line_text, lines_text, too_long_in};
 
-use crate::asked::Asked;
 use crate::fetching::append_fetch;
 use crate::offered::{Wanted, offered};
 use crate::parts::Parts;
+use fetch_asked::Asked;
 use fetch_lines::{Capability, Line, LineRef, greeting_lines, listing_lines, write_line};
 use fetch_store::{Kind, NoMemory, Text};
 use std::alloc::Global;

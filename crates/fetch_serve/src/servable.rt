@@ -12,8 +12,8 @@ ghost use Rattle.fetch_store.specs.Graph.{graph_of};
 ghost use Rattle.std.specs.FinSet as set;
 ghost use Rattle.fetch_store.specs.Missing.{unclosed};
 
-use crate::error::ServeError;
 use crate::parts::Parts;
+use fetch_asked::ServeError;
 use fetch_reach::{first_misnamed, stored_objects_are_objects};
 use fetch_refs::{RefError, TagEnds, TargetRef};
 use fetch_specs::{FullName, NameError};

@@ -5,14 +5,12 @@ ghost use Rattle.fetch_serve.specs.Replies.{reply_text};
 ghost use Rattle.fetch_serve.specs.Servable.{IsServable};
 ghost use Rattle.fetch_serve.specs.Parts.{held_by};
 ghost use Rattle.fetch_serve.specs.Servings.{RefusesBy, Takes, state_of};
-ghost use Rattle.fetch_serve.specs.Texts.{IsBegun};
+ghost use Rattle.fetch_asked.specs.Texts.{IsBegun};
 
-use crate::asked::Asked;
-use crate::error::ServeError;
-use crate::intake::{Intake, Refusal};
 use crate::parts::Parts;
 use crate::replying::append_reply;
 use crate::servable::check;
+use fetch_asked::{Asked, Intake, Refusal, ServeError};
 use fetch_refs::Refs;
 use fetch_store::{Border, NoMemory, Store};
 use std::alloc::Global;
@@ -69,7 +67,7 @@ impl<'a> Server<'a> {
     ghost use Rattle.fetch_serve.specs.Servable.{IsServable, IsTrouble};
     ghost use Rattle.fetch_serve.specs.Served.{data_of};
     ghost use Rattle.fetch_serve.specs.Servings.{FeedsBy, turn_of, unfed};
-    ghost use Rattle.fetch_serve.specs.Texts.{IsBegun};
+    ghost use Rattle.fetch_asked.specs.Texts.{IsBegun};
     ghost use Rattle.fetch_serve.specs.declared.server.ServeTurn.TheVariants as turns;
 
     /// A server of this repository, to which nothing was fed. It is refused for its first cause, in the order of

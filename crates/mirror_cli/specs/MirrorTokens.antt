@@ -4,8 +4,8 @@ use Rattle.std.specs.Prelude.{ℕ, List, codes, decimal}
 use Rattle.fetch_base.specs.Digits.{hex_of}
 use Rattle.fetch_conversation.specs.declared.prepare.Error.TheVariants as prepare
 use Rattle.fetch_remote.specs.declared.fetching.fetch_error.FetchError.TheVariants as fetch
-use Rattle.fetch_serve.specs.declared.error.ServeError.{ServeError}
-use Rattle.fetch_serve.specs.declared.error.ServeError.TheVariants as serve
+use Rattle.fetch_asked.specs.declared.error.ServeError.{ServeError}
+use Rattle.fetch_asked.specs.declared.error.ServeError.TheVariants as serve
 use Rattle.fetch_shared.specs.declared.error.SharedError.{SharedError}
 use Rattle.fetch_mirror.specs.declared.error.MirrorError.{MirrorError}
 use Rattle.fetch_mirror.specs.declared.error.MirrorError.TheVariants as errors

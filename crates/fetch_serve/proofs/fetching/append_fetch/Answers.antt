@@ -4,7 +4,7 @@ use Rattle.std.specs.List.{flat_map}
 use Rattle.fetch_serve.specs.Offered.{ids_in, offered_ids}
 use Rattle.fetch_serve.specs.Parts.{held_by}
 use Rattle.fetch_serve.specs.Replies.{first_unoffered}
-use Rattle.fetch_serve.specs.Requests.{has_id}
+use Rattle.fetch_asked.specs.Requests.{has_id}
 use Rattle.fetch_serve.proofs.Appending.{fetch_by, on_ok}
 use Rattle.fetch_serve.proofs.fetching.append_fetch.Goals as goal
 

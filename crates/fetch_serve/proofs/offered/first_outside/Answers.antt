@@ -1,6 +1,6 @@
 use Rattle.std.proofs.Common.{◌<◌, [], length, not, sym, ap, ◌∙◌, arith}
 use Rattle.fetch_base.specs.declared.id.ObjectId.TheVariants.{Sha1}
-use Rattle.fetch_serve.specs.Requests.{has_id}
+use Rattle.fetch_asked.specs.Requests.{has_id}
 use Rattle.fetch_serve.proofs.Collecting.{first_here, first_later}
 use Rattle.fetch_serve.proofs.offered.first_outside.Goals as goal
 

@@ -1,6 +1,6 @@
 use Rattle.std.proofs.Common.{◌≡◌, drop, filter, not}
 use Rattle.std.specs.Prelude.{slice_get}
-use Rattle.fetch_serve.specs.Requests.{has_id}
+use Rattle.fetch_asked.specs.Requests.{has_id}
 use Rattle.fetch_serve.proofs.offered.first_outside.Given as goal
 
 abbrev pub invariant-loop-id : goal.invariant-loop-id

@@ -6,7 +6,7 @@ use Rattle.fetch_base.specs.Id.{id_cmp}
 use Rattle.fetch_base.specs.declared.id.ObjectId.{ObjectId}
 use Rattle.fetch_serve.specs.Packs.{tags_of}
 use Rattle.fetch_serve.specs.Parts.{held_by}
-use Rattle.fetch_serve.specs.Requests.{has_id}
+use Rattle.fetch_asked.specs.Requests.{has_id}
 use Rattle.fetch_serve.specs.Served.{history_of}
 use Rattle.fetch_serve.proofs.Collecting.{served_ok, served_plain}
 use Rattle.fetch_serve.proofs.served.served.Goals as goal

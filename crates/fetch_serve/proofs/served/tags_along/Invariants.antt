@@ -3,7 +3,7 @@ use Rattle.std.specs.List.{flat_map}
 use Rattle.fetch_store.specs.Graph.{graph_of}
 use Rattle.fetch_serve.specs.Packs.{tags_of}
 use Rattle.fetch_serve.specs.Parts.{held_by}
-use Rattle.fetch_serve.specs.Requests.{has_id}
+use Rattle.fetch_asked.specs.Requests.{has_id}
 use Rattle.fetch_serve.proofs.served.tags_along.Given as goal
 
 abbrev pub invariant-loop-reference : goal.invariant-loop-reference

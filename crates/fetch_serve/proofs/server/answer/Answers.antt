@@ -1,5 +1,5 @@
 use Rattle.std.proofs.Common.{◌≡◌, sym, ap, ◌∙◌, subst, length, ◌<◌}
-use Rattle.fetch_serve.specs.Intakes.{Incoming, passed}
+use Rattle.fetch_asked.specs.Intakes.{Incoming, passed}
 use Rattle.fetch_serve.specs.Parts.{held_by}
 use Rattle.fetch_serve.proofs.Answering as on
 use Rattle.fetch_serve.proofs.server.answer.Goals as goal

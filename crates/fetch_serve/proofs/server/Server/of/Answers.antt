@@ -1,5 +1,5 @@
 use Rattle.std.proofs.Common.{false, arith}
-use Rattle.fetch_serve.proofs.Asking.{nothing_yet}
+use Rattle.fetch_asked.proofs.Asking.{nothing_yet}
 use Rattle.fetch_serve.proofs.server.Server.of.Goals as goal
 
 pub invariant_of-result : goal.invariant_of-result

@@ -1,0 +1,5 @@
+pub mod Digits
+pub mod Consumed
+pub mod Asking
+pub mod Intakes
+pub mod WantIds

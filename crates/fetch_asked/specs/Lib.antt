@@ -1,0 +1,5 @@
+pub mod RequestTexts
+pub mod Requests
+pub mod Reads
+pub mod Texts
+pub mod Intakes
