@@ -19,21 +19,21 @@ use Rattle.fetch_remote.specs.declared.fetching.outcome.Outcome.{Outcome}
 use Rattle.fetch_remote.specs.declared.fetching.prepared.Prepared.{Prepared}
 use Rattle.fetch_clone.specs.Counted.{Meters, IsCounted}
 use Rattle.fetch_clone.specs.Heeded.{IsHeededOver}
-use Rattle.fetch_clone.specs.HeadUpdates.{IsToldAs}
-use Rattle.fetch_clone.specs.NamedRefs.{is_memory, ref_named_in}
-use Rattle.fetch_clone.specs.Reached.{Ways, Line, IsTurnedAway, IsUnreached, connecting, line, turned_away}
+use Rattle.fetch_init.specs.HeadUpdates.{IsToldAs}
+use Rattle.fetch_init.specs.NamedRefs.{is_memory, ref_named_in}
+use Rattle.fetch_clone.specs.Reached.{Ways, Line, IsTurnedAway, IsUnreached, line, turned_away}
+use Rattle.fetch_init.specs.Refusals.{connecting, listing}
 use Rattle.fetch_clone.specs.Received.{IsNotTaken, IsOfReceiving, IsReceived, IsTaken, IsUnmapped, IsUnreceived}
-use Rattle.fetch_clone.specs.Stages.{listing}
-use Rattle.fetch_clone.specs.declared.head_target.HeadError.TheVariants as head_errors
+use Rattle.fetch_init.specs.declared.head_target.HeadError.TheVariants as head_errors
 use Rattle.fetch_clone.specs.declared.choices.CloneTarget.{CloneTarget}
 use Rattle.fetch_clone.specs.declared.choices.CloneTarget.TheVariants.{RefName}
-use Rattle.fetch_clone.specs.declared.clone.fetch.Error.{Error}
-use Rattle.fetch_clone.specs.declared.clone.fetch.Error.TheVariants as errors
+use Rattle.fetch_init.specs.declared.clone.fetch.Error.{Error}
+use Rattle.fetch_init.specs.declared.clone.fetch.Error.TheVariants as errors
 use Rattle.fetch_clone.specs.declared.clone_state.CloneState.{CloneState}
-use Rattle.fetch_clone.specs.declared.named_ref.RefNameError.{RefNameError}
+use Rattle.fetch_init.specs.declared.named_ref.RefNameError.{RefNameError}
 use Rattle.fetch_clone.specs.declared.prepare_fetch.ConfigureFault.{ConfigureFault}
 use Rattle.fetch_clone.specs.declared.prepare_fetch.ConfigureFault.TheVariants as faults
-use Rattle.fetch_clone.proofs.Headed.{forgotten, memory-told}
+use Rattle.fetch_init.proofs.Headed.{forgotten, memory-told}
 use Rattle.fetch_clone.proofs.StepsCounted.{received-recounted}
 
 -- ---- peers

@@ -6,10 +6,9 @@ use Rattle.fetch_conversation.specs.declared.prepare.Error.TheVariants as prepar
 use Rattle.fetch_remote.specs.declared.connect.Error.{Error as ConnectError}
 use Rattle.fetch_remote.specs.declared.connect.Error.TheVariants as connect
 use Rattle.fetch_clone.specs.Blame.{BlamesMaker, BlamesStop, LentMaker}
-use Rattle.fetch_clone.specs.declared.clone.fetch.Error.{Error}
-use Rattle.fetch_clone.specs.declared.clone.fetch.Error.TheVariants as errors
-use Rattle.fetch_clone.specs.Reached.{connecting}
-use Rattle.fetch_clone.specs.Stages.{preparing}
+use Rattle.fetch_init.specs.declared.clone.fetch.Error.{Error}
+use Rattle.fetch_init.specs.declared.clone.fetch.Error.TheVariants as errors
+use Rattle.fetch_init.specs.Refusals.{connecting, preparing}
 use Rattle.fetch_clone.proofs.Heeded.{says-none}
 
 -- ---- where nobody was asked

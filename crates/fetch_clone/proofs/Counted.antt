@@ -14,8 +14,8 @@ use Rattle.fetch_remote.specs.declared.connect.Error.TheVariants as connect
 use Rattle.fetch_remote.specs.declared.repository.open_error.OpenError.TheVariants as opening
 use Rattle.fetch_clone.specs.Counted.{Meters, CountsBy, IsCounted, Later}
 use Rattle.fetch_clone.specs.Listed.{is_conflict_at}
-use Rattle.fetch_clone.specs.declared.clone.fetch.Error.{Error}
-use Rattle.fetch_clone.specs.declared.clone.fetch.Error.TheVariants as errors
+use Rattle.fetch_init.specs.declared.clone.fetch.Error.{Error}
+use Rattle.fetch_init.specs.declared.clone.fetch.Error.TheVariants as errors
 
 pub later-none : (a : Meters) → Later a a
 later-none a =

@@ -1,9 +1,5 @@
-pub mod NamedRefs
-pub mod Alone
 pub mod Reread
-pub mod Opened
 pub mod Prepared
-pub mod Headed
 pub mod Returned
 pub mod Uncounted
 pub mod Counted

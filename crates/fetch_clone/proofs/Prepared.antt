@@ -8,13 +8,14 @@ use Rattle.fetch_base.specs.declared.failed.Failed.{Failed}
 use Rattle.fetch_base.specs.Faults.{Faults, Counts, Rose}
 use Rattle.fetch_files.specs.Trees.{Tree, without_all}
 use Rattle.fetch_remote.specs.Finding.{is_no_address}
-use Rattle.fetch_clone.specs.CloneStates.{IsNoted, IsPrepareRefusal, IsRemoved, init_refusal, is_clone_fault, strict}
-use Rattle.fetch_clone.specs.Initial.{IsInitRefusal, is_init_fault, new_of}
+use Rattle.fetch_clone.specs.CloneStates.{IsNoted, IsPrepareRefusal, IsRemoved, is_clone_fault, strict}
+use Rattle.fetch_init.specs.Refusals.{init_refusal}
+use Rattle.fetch_init.specs.Initial.{IsInitRefusal, is_init_fault, new_of}
 use Rattle.fetch_create.specs.Plans.{steps_of}
 use Rattle.fetch_clone.specs.declared.clone_state.Making.{Making}
-use Rattle.fetch_clone.specs.declared.clone.Error.TheVariants as clones
-use Rattle.fetch_clone.specs.declared.init.Error.{Error}
-use Rattle.fetch_clone.specs.declared.init.Error.TheVariants as initial
+use Rattle.fetch_init.specs.declared.clone.Error.TheVariants as clones
+use Rattle.fetch_init.specs.declared.init.Error.{Error}
+use Rattle.fetch_init.specs.declared.init.Error.TheVariants as initial
 
 -- ---- the clone
 

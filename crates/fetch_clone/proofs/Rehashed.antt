@@ -12,9 +12,9 @@ use Rattle.fetch_remote.specs.declared.repository.open_error.OpenError.{OpenErro
 use Rattle.fetch_remote.specs.declared.repository.open_error.OpenError.TheVariants as opening
 use Rattle.fetch_clone.specs.Hashed.{IsHashed, IsUnhashed, IsUnread, IsUnversioned}
 use Rattle.fetch_clone.specs.Received.{IsResolvedIn, WasListed}
-use Rattle.fetch_clone.specs.Stages.{reopening}
-use Rattle.fetch_clone.specs.declared.clone.fetch.Error.{Error}
-use Rattle.fetch_clone.specs.declared.clone.fetch.Error.TheVariants as errors
+use Rattle.fetch_init.specs.Refusals.{reopening}
+use Rattle.fetch_init.specs.declared.clone.fetch.Error.{Error}
+use Rattle.fetch_init.specs.declared.clone.fetch.Error.TheVariants as errors
 
 -- The references are asked for by the same settings.
 pub still-listed : (files written : Option Tree) (kind : Kind) (found asked : RepositoryValue) (reread : Option Resolved) → IsHashed files written kind found asked reread

@@ -9,10 +9,10 @@ use Rattle.fetch_config.specs.Print.{text_of}
 use Rattle.fetch_remote.specs.RepositoryValues.{Setup}
 use Rattle.fetch_remote.specs.declared.repository.open_error.OpenError.TheVariants as opening
 use Rattle.fetch_clone.specs.Hashed.{IsLocal, IsUnversioned}
-use Rattle.fetch_clone.specs.HeadUpdates.{IsUnsaved}
-use Rattle.fetch_clone.specs.RemoteSections.{path_of}
+use Rattle.fetch_init.specs.HeadUpdates.{IsUnsaved}
+use Rattle.fetch_init.specs.RemoteSections.{path_of}
 use Rattle.fetch_create.specs.Versioned.{versioned}
-use Rattle.fetch_clone.specs.declared.clone.fetch.Error.TheVariants as errors
+use Rattle.fetch_init.specs.declared.clone.fetch.Error.TheVariants as errors
 
 module _ (may_fail : Bool) (told now : Option Tree) (kind : Kind) (setup : Setup) (local file : Contents) (read : IsLocal told setup local) (is : file ≡ versioned kind local) where
   pub unversioned : now ≡ told → IsUnsaved may_fail told setup.settings.git_dir (Some file) errors.SaveConfigIo → IsUnversioned may_fail told now kind setup (errors.ReopenWithObjectHash opening.Io)

@@ -22,19 +22,20 @@ use Rattle.fetch_remote.specs.declared.repository.open_error.OpenError.{OpenErro
 use Rattle.fetch_remote.specs.declared.repository.open_error.OpenError.TheVariants as opening
 use Rattle.fetch_clone.specs.Cloned.{IsUnfinished}
 use Rattle.fetch_clone.specs.Counted.{Meters, IsCounted}
-use Rattle.fetch_clone.specs.HeadUpdates.{IsHeadRefusal}
+use Rattle.fetch_init.specs.HeadUpdates.{IsHeadRefusal}
 use Rattle.fetch_clone.specs.Listed.{Query, IsUnprepared, url_of}
-use Rattle.fetch_clone.specs.RemoteSections.{IsSectionRefusal, IsUnsavedAs, IsUnwritten}
+use Rattle.fetch_init.specs.RemoteSections.{IsSectionRefusal, IsUnsavedAs, IsUnwritten}
 use Rattle.fetch_clone.specs.Planned.{Answering, IsNotNamed, overrides_of}
 use Rattle.fetch_clone.specs.Reached.{Ways, Line, IsTurnedAway, IsUnreached}
 use Rattle.fetch_clone.specs.Received.{IsOfReceiving, IsUnmapped, IsUnmappedFor}
 use Rattle.fetch_clone.specs.Saving.{IsNotSavedAs}
-use Rattle.fetch_clone.specs.Stages.{listing, preparing, receiving, reopening, ref_name_of, remote_name, revision_of}
-use Rattle.fetch_clone.specs.declared.head_target.HeadError.TheVariants as head_errors
+use Rattle.fetch_clone.specs.Stages.{ref_name_of, remote_name, revision_of}
+use Rattle.fetch_init.specs.Refusals.{receiving, reopening, preparing, listing}
+use Rattle.fetch_init.specs.declared.head_target.HeadError.TheVariants as head_errors
 use Rattle.fetch_clone.specs.declared.choices.CloneTarget.{CloneTarget}
 use Rattle.fetch_clone.specs.declared.choices.CloneTarget.TheVariants.{Everything, RefName, Revision}
-use Rattle.fetch_clone.specs.declared.clone.fetch.Error.{Error}
-use Rattle.fetch_clone.specs.declared.clone.fetch.Error.TheVariants as errors
+use Rattle.fetch_init.specs.declared.clone.fetch.Error.{Error}
+use Rattle.fetch_init.specs.declared.clone.fetch.Error.TheVariants as errors
 use Rattle.fetch_clone.specs.declared.clone_state.CloneState.{CloneState}
 use Rattle.fetch_clone.specs.declared.prepare_fetch.ConfigureFault.{ConfigureFault}
 use Rattle.fetch_clone.proofs.Uncounted.{is_uncounted, uncounted, override-uncounted, name-uncounted, choice-uncounted, same-uncounted, told-as-uncounted, target-uncounted}

@@ -10,12 +10,12 @@ use Rattle.fetch_remote.specs.Remotes.{RemoteValue}
 use Rattle.fetch_remote.specs.RepositoryValues.{RepositoryValue}
 use Rattle.fetch_remote.specs.Stages.{inquiry_of}
 use Rattle.fetch_remote.specs.Steps.{HasInquired, IsUninquired}
-use Rattle.fetch_clone.specs.HeadUpdates.{head_target_of}
+use Rattle.fetch_init.specs.HeadUpdates.{head_target_of}
 use Rattle.fetch_clone.specs.Heeded.{IsHeededOver, SaysNo}
 use Rattle.fetch_clone.specs.Reached.{Ways, Line, IsReached}
 use Rattle.fetch_clone.specs.Stages.{lists_first, ref_name_of}
 use Rattle.fetch_clone.specs.Targets.{IsHeadTarget, AreFirstOptions, HasListedFirst, HasNoTarget, HasTarget, HasTargetBy, HeedsBy, HeedsFirst, HasHeadTarget, IsAsked, IsHeadTargetRefusedBy, IsUnlisted, IsUntargeted, bare}
-use Rattle.fetch_clone.specs.declared.clone.fetch.Error.{Error}
+use Rattle.fetch_init.specs.declared.clone.fetch.Error.{Error}
 use Rattle.fetch_clone.specs.declared.clone_state.CloneState.{CloneState}
 use Rattle.fetch_clone.proofs.Heeded.{heeded-ahead}
 

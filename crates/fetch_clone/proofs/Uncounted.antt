@@ -5,14 +5,14 @@ use Rattle.fetch_specs.specs.Specs.{Spec}
 use Rattle.fetch_lines.specs.declared.listings.mapping.RefMap.{RefMap}
 use Rattle.fetch_remote.specs.RepositoryValues.{State}
 use Rattle.fetch_clone.specs.Counted.{Meters, IsCounted}
-use Rattle.fetch_clone.specs.HeadUpdates.{LacksHeadTarget, IsToldAs, told_as, wanting}
+use Rattle.fetch_init.specs.HeadUpdates.{LacksHeadTarget, IsToldAs, told_as, wanting}
 use Rattle.fetch_clone.specs.Planned.{Answering, IsUnchosen, IsUnnamed, IsUnoverridden}
 use Rattle.fetch_clone.specs.Targets.{told_again}
-use Rattle.fetch_clone.specs.declared.head_target.HeadError.{HeadError}
-use Rattle.fetch_clone.specs.declared.head_target.HeadError.TheVariants as head_errors
-use Rattle.fetch_clone.specs.declared.named_ref.RefNameError.TheVariants as ref_name_errors
-use Rattle.fetch_clone.specs.declared.clone.fetch.Error.{Error}
-use Rattle.fetch_clone.specs.declared.clone.fetch.Error.TheVariants as errors
+use Rattle.fetch_init.specs.declared.head_target.HeadError.{HeadError}
+use Rattle.fetch_init.specs.declared.head_target.HeadError.TheVariants as head_errors
+use Rattle.fetch_init.specs.declared.named_ref.RefNameError.TheVariants as ref_name_errors
+use Rattle.fetch_init.specs.declared.clone.fetch.Error.{Error}
+use Rattle.fetch_init.specs.declared.clone.fetch.Error.TheVariants as errors
 use Rattle.fetch_clone.specs.declared.clone_state.CloneState.{CloneState}
 
 -- whether no refusal of this kind has a count

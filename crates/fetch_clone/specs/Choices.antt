@@ -5,7 +5,7 @@ use Rattle.fetch_specs.specs.Specs.{Spec}
 use Rattle.fetch_specs.specs.declared.error.NameError.{NameError}
 use Rattle.fetch_specs.specs.declared.error.NameError.TheVariants as names
 use Rattle.fetch_negotiate.specs.declared.algorithm.Shallow.TheVariants.{NoChange}
-use Rattle.fetch_clone.specs.Revisions.{revision_of}
+use Rattle.fetch_init.specs.Revisions.{revision_of}
 use Rattle.fetch_clone.specs.declared.choices.Choices.{Choices}
 use Rattle.fetch_clone.specs.declared.choices.CloneTarget.{CloneTarget}
 use Rattle.fetch_clone.specs.declared.choices.CloneTarget.TheVariants.{Everything, RefName, Revision}

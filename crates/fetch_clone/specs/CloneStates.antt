@@ -11,17 +11,17 @@ use Rattle.fetch_remote.specs.Finding.{is_no_address}
 use Rattle.fetch_remote.specs.declared.repository.OpenOptions.{OpenOptions}
 use Rattle.fetch_clone.specs.Choices.{plain}
 use Rattle.fetch_create.specs.Creation.{Reaches, TellsStill, listed_in}
-use Rattle.fetch_clone.specs.Initial.{IsInitial, IsInitRefusal, is_init_fault, new_of}
+use Rattle.fetch_init.specs.Initial.{IsInitial, IsInitRefusal, is_init_fault, new_of}
 use Rattle.fetch_create.specs.Plans.{steps_of}
-use Rattle.fetch_clone.specs.declared.clone.Error.{Error}
-use Rattle.fetch_clone.specs.declared.clone.Error.TheVariants.{Url, Init, NoMemory}
+use Rattle.fetch_init.specs.declared.clone.Error.{Error}
+use Rattle.fetch_init.specs.declared.clone.Error.TheVariants.{Url, Init, NoMemory}
 use Rattle.fetch_clone.specs.declared.choices.Choices.{Choices}
 use Rattle.fetch_create.specs.declared.create.Kind.{Kind as Layout}
 use Rattle.fetch_create.specs.declared.create.Options.{Options}
 use Rattle.fetch_clone.specs.declared.clone_state.CloneState.{CloneState}
 use Rattle.fetch_clone.specs.declared.clone_state.Making.{Making}
-use Rattle.fetch_clone.specs.declared.init.Error.{Error as InitError}
-use Rattle.fetch_clone.specs.declared.init.Error.TheVariants as initial
+use Rattle.fetch_init.specs.declared.init.Error.{Error as InitError}
+use Rattle.fetch_init.specs.declared.init.Error.TheVariants as initial
 
 -- whether a text has a NUL or a line feed
 abbrev pub has_nul_or_feed : List ℕ → Bool
@@ -90,11 +90,6 @@ pub record IsUnprepared (was is : Faults) (may_fail : Bool) (before : Option Tre
   pub later : Counts failed is
   pub why : IsInitRefusal may_fail before (steps_of place making.kind (strict making.options))
       (new_of place making.kind (strict making.options) making.committer making.open_options) now e
-
--- Out of memory is never wrapped.
-abbrev pub init_refusal : InitError → Error
-init_refusal initial.NoMemory = NoMemory
-init_refusal e = Init e
 
 -- Why a clone wasn't prepared: its address is none, and then nothing was asked of the files; or the repository wasn't created
 -- or opened.

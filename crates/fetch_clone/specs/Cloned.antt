@@ -12,7 +12,7 @@ use Rattle.fetch_remote.specs.RepositoryValues.{RepositoryValue, Setup}
 use Rattle.fetch_remote.specs.declared.fetching.outcome.Outcome.{Outcome}
 use Rattle.fetch_remote.specs.declared.fetching.prepared.Prepared.{Prepared}
 use Rattle.fetch_clone.specs.Heeded.{IsHeededOver}
-use Rattle.fetch_clone.specs.HeadUpdates.{IsHeadUpdated, IsHeadRefusal}
+use Rattle.fetch_init.specs.HeadUpdates.{IsHeadUpdated, IsHeadRefusal}
 use Rattle.fetch_clone.specs.Listed.{Query, query, IsListed, IsUnprepared}
 use Rattle.fetch_clone.specs.Planned.{Answering}
 use Rattle.fetch_clone.specs.Reached.{Ways, Line}
@@ -21,8 +21,8 @@ use Rattle.fetch_create.specs.Replacing.{replaced}
 use Rattle.fetch_clone.specs.Saving.{IsSaved, IsNotSaved}
 use Rattle.fetch_clone.specs.Stages.{ref_name_of, revision_of}
 use Rattle.fetch_clone.specs.Targets.{HeedsFirst}
-use Rattle.fetch_clone.specs.declared.clone.fetch.Error.{Error}
-use Rattle.fetch_clone.specs.declared.clone.fetch.Error.TheVariants as errors
+use Rattle.fetch_init.specs.declared.clone.fetch.Error.{Error}
+use Rattle.fetch_init.specs.declared.clone.fetch.Error.TheVariants as errors
 use Rattle.fetch_clone.specs.declared.clone_state.CloneState.{CloneState}
 use Rattle.fetch_clone.specs.declared.fetching.saving.Saved.{Saved}
 

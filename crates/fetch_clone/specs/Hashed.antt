@@ -12,11 +12,11 @@ use Rattle.fetch_remote.specs.Repositories.{state_of, setup_of}
 use Rattle.fetch_remote.specs.RepositoryValues.{RepositoryValue, Setup, State, resolved_of}
 use Rattle.fetch_remote.specs.declared.repository.Resolved.{Resolved}
 use Rattle.fetch_remote.specs.declared.repository.open_error.OpenError.TheVariants as opening
-use Rattle.fetch_clone.specs.HeadUpdates.{IsWritten}
-use Rattle.fetch_clone.specs.RemoteSections.{path_of}
+use Rattle.fetch_init.specs.HeadUpdates.{IsWritten}
+use Rattle.fetch_init.specs.RemoteSections.{path_of}
 use Rattle.fetch_create.specs.Versioned.{versioned}
-use Rattle.fetch_clone.specs.declared.clone.fetch.Error.{Error}
-use Rattle.fetch_clone.specs.declared.clone.fetch.Error.TheVariants as errors
+use Rattle.fetch_init.specs.declared.clone.fetch.Error.{Error}
+use Rattle.fetch_init.specs.declared.clone.fetch.Error.TheVariants as errors
 
 -- The hash is another, and nothing has an id.
 abbrev pub IsRehashed : Kind → State → Type 0

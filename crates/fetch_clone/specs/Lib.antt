@@ -1,11 +1,5 @@
-pub mod Revisions
 pub mod Choices
-pub mod NamedRefs
-pub mod HeadTargets
-pub mod Initial
 pub mod CloneStates
-pub mod HeadUpdates
-pub mod RemoteSections
 pub mod Hashed
 pub mod Reached
 pub mod Heeded

@@ -22,14 +22,15 @@ use Rattle.fetch_remote.specs.Stages.{inquiry_of}
 use Rattle.fetch_remote.specs.Steps.{HasListed, BreaksOff, options_with}
 use Rattle.fetch_remote.specs.declared.connect.Error.{Error as ConnectError}
 use Rattle.fetch_remote.specs.declared.fetching.prepared.Prepared.{Prepared}
-use Rattle.fetch_clone.specs.HeadTargets.{is_same_side}
+use Rattle.fetch_init.specs.HeadTargets.{is_same_side}
 use Rattle.fetch_clone.specs.Reached.{Ways, Line, IsMade, IsReached, IsReturned, IsTurnedAway, IsUnreached}
-use Rattle.fetch_clone.specs.Stages.{preparing, ref_name_of}
+use Rattle.fetch_clone.specs.Stages.{ref_name_of}
+use Rattle.fetch_init.specs.Refusals.{preparing}
 use Rattle.fetch_create.specs.RemoteNames.{tracking_of}
 use Rattle.fetch_clone.specs.declared.choices.Choices.{Choices}
 use Rattle.fetch_clone.specs.declared.choices.CloneTarget.{CloneTarget}
 use Rattle.fetch_clone.specs.declared.choices.CloneTarget.TheVariants.{Everything, RefName, Revision}
-use Rattle.fetch_clone.specs.declared.clone.fetch.Error.{Error}
+use Rattle.fetch_init.specs.declared.clone.fetch.Error.{Error}
 
 -- ---- the extra refspecs
 

@@ -15,8 +15,8 @@ use Rattle.fetch_clone.specs.Targets.{HasTarget, HasNoTarget}
 use Rattle.fetch_create.specs.RemoteNames.{spec_text}
 use Rattle.fetch_clone.specs.declared.choices.CloneTarget.{CloneTarget}
 use Rattle.fetch_clone.specs.declared.choices.CloneTarget.TheVariants.{Everything, RefName, Revision}
-use Rattle.fetch_clone.specs.declared.clone.fetch.Error.{Error}
-use Rattle.fetch_clone.specs.declared.clone.fetch.Error.TheVariants as errors
+use Rattle.fetch_init.specs.declared.clone.fetch.Error.{Error}
+use Rattle.fetch_init.specs.declared.clone.fetch.Error.TheVariants as errors
 use Rattle.fetch_clone.specs.declared.clone_state.CloneState.{CloneState}
 use Rattle.fetch_clone.specs.declared.prepare_fetch.ConfigureFault.{ConfigureFault}
 use Rattle.fetch_clone.specs.declared.prepare_fetch.ConfigureFault.TheVariants as faults

@@ -6,17 +6,12 @@ use Rattle.fetch_lookup.specs.declared.direction.Direction.TheVariants.{Fetch}
 use Rattle.fetch_remote.specs.Connecting.{Makes, MakesAtFirst, TakesBack}
 use Rattle.fetch_remote.specs.declared.connect.Error.{Error as ConnectError}
 use Rattle.fetch_remote.specs.declared.connect.Error.TheVariants as connect
-use Rattle.fetch_clone.specs.declared.clone.fetch.Error.{Error}
-use Rattle.fetch_clone.specs.declared.clone.fetch.Error.TheVariants as errors
+use Rattle.fetch_init.specs.declared.clone.fetch.Error.{Error}
+use Rattle.fetch_init.specs.declared.clone.fetch.Error.TheVariants as errors
 use Rattle.fetch_clone.specs.declared.prepare_fetch.ConfigureFault.{ConfigureFault}
 use Rattle.fetch_clone.specs.declared.prepare_fetch.ConfigureFault.TheVariants as faults
 
 -- ---- peers
-
--- out of memory stays what it is
-abbrev pub connecting : ConnectError → Error
-connecting connect.NoMemory = errors.NoMemory
-connecting e = errors.Connect e
 
 -- what the closure's refusal of a peer is told as
 abbrev pub turned_away : ConfigureFault → Error

@@ -25,19 +25,19 @@ use Rattle.fetch_remote.specs.declared.fetching.outcome.Outcome.{Outcome}
 use Rattle.fetch_remote.specs.declared.fetching.prepared.Prepared.{Prepared}
 use Rattle.fetch_remote.specs.declared.repository.Resolved.{Resolved}
 use Rattle.fetch_remote.specs.declared.repository.open_error.OpenError.{OpenError}
-use Rattle.fetch_clone.specs.HeadTargets.{revision_id}
+use Rattle.fetch_init.specs.HeadTargets.{revision_id}
 use Rattle.fetch_clone.specs.Hashed.{IsHashed, IsUnhashed}
-use Rattle.fetch_clone.specs.HeadUpdates.{IsToldAs}
-use Rattle.fetch_clone.specs.NamedRefs.{ref_named_in}
-use Rattle.fetch_clone.specs.Stages.{receiving, reopening}
-use Rattle.fetch_clone.specs.declared.head_target.HeadError.TheVariants as head_errors
+use Rattle.fetch_init.specs.HeadUpdates.{IsToldAs}
+use Rattle.fetch_init.specs.NamedRefs.{ref_named_in}
+use Rattle.fetch_init.specs.Refusals.{receiving, reopening}
+use Rattle.fetch_init.specs.declared.head_target.HeadError.TheVariants as head_errors
 use Rattle.fetch_clone.specs.declared.choices.CloneTarget.{CloneTarget}
 use Rattle.fetch_clone.specs.declared.choices.CloneTarget.TheVariants.{Everything, RefName, Revision}
-use Rattle.fetch_clone.specs.declared.clone.fetch.Error.{Error}
-use Rattle.fetch_clone.specs.declared.clone.fetch.Error.TheVariants as errors
+use Rattle.fetch_init.specs.declared.clone.fetch.Error.{Error}
+use Rattle.fetch_init.specs.declared.clone.fetch.Error.TheVariants as errors
 use Rattle.fetch_clone.specs.declared.clone_state.CloneState.{CloneState}
-use Rattle.fetch_clone.specs.declared.named_ref.NamedRef.{NamedRef}
-use Rattle.fetch_clone.specs.declared.named_ref.RefNameError.{RefNameError}
+use Rattle.fetch_init.specs.declared.named_ref.NamedRef.{NamedRef}
+use Rattle.fetch_init.specs.declared.named_ref.RefNameError.{RefNameError}
 
 -- ---- what is fetched by
 

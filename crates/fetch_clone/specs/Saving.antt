@@ -6,11 +6,11 @@ use Rattle.fetch_lookup.specs.Saved.{valid_name}
 use Rattle.fetch_specs.specs.declared.tags.Tags.TheVariants as tags
 use Rattle.fetch_remote.specs.Remotes.{RemoteValue, renamed}
 use Rattle.fetch_remote.specs.RepositoryValues.{RepositoryValue, Setup}
-use Rattle.fetch_clone.specs.RemoteSections.{IsSectionWritten, IsSectionRefusal, section_of}
+use Rattle.fetch_init.specs.RemoteSections.{IsSectionWritten, IsSectionRefusal, section_of}
 use Rattle.fetch_clone.specs.Planned.{Answering, IsChosen, IsNamed, IsNotNamed, IsUnchosen}
 use Rattle.fetch_clone.specs.Reached.{Ways, Line}
 use Rattle.fetch_clone.specs.Stages.{revision_of}
-use Rattle.fetch_clone.specs.declared.clone.fetch.Error.{Error}
+use Rattle.fetch_init.specs.declared.clone.fetch.Error.{Error}
 use Rattle.fetch_clone.specs.declared.clone_state.CloneState.{CloneState}
 use Rattle.fetch_clone.specs.declared.fetching.saving.Saved.{Saved}
 

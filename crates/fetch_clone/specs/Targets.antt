@@ -14,16 +14,17 @@ use Rattle.fetch_remote.specs.Remotes.{RemoteValue, nameless}
 use Rattle.fetch_remote.specs.RepositoryValues.{State, Setup, RepositoryValue}
 use Rattle.fetch_remote.specs.Stages.{inquiry_of}
 use Rattle.fetch_remote.specs.Steps.{HasInquired, IsUninquired}
-use Rattle.fetch_clone.specs.HeadUpdates.{LacksHeadTarget, head_target_of}
+use Rattle.fetch_init.specs.HeadUpdates.{LacksHeadTarget, head_target_of}
 use Rattle.fetch_clone.specs.Heeded.{IsHeededOver}
 use Rattle.fetch_clone.specs.Reached.{Ways, Line, IsReached, IsReturned, IsTurnedAway, IsUnreached}
-use Rattle.fetch_clone.specs.Stages.{lists_first, listing, ref_name_of}
-use Rattle.fetch_clone.specs.declared.head_target.HeadTarget.{HeadTarget}
-use Rattle.fetch_clone.specs.declared.head_target.HeadTarget.TheVariants.{Nothing, Id, Name}
-use Rattle.fetch_clone.specs.declared.head_target.HeadError.{HeadError}
+use Rattle.fetch_clone.specs.Stages.{lists_first, ref_name_of}
+use Rattle.fetch_init.specs.Refusals.{listing}
+use Rattle.fetch_init.specs.declared.head_target.HeadTarget.{HeadTarget}
+use Rattle.fetch_init.specs.declared.head_target.HeadTarget.TheVariants.{Nothing, Id, Name}
+use Rattle.fetch_init.specs.declared.head_target.HeadError.{HeadError}
 use Rattle.fetch_clone.specs.declared.choices.Choices.{Choices}
-use Rattle.fetch_clone.specs.declared.clone.fetch.Error.{Error}
-use Rattle.fetch_clone.specs.declared.clone.fetch.Error.TheVariants as errors
+use Rattle.fetch_init.specs.declared.clone.fetch.Error.{Error}
+use Rattle.fetch_init.specs.declared.clone.fetch.Error.TheVariants as errors
 use Rattle.fetch_clone.specs.declared.clone_state.CloneState.{CloneState}
 
 -- ---- what is asked

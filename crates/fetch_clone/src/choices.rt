@@ -7,11 +7,11 @@ ghost use Rattle.fetch_lookup.specs.Names.{IsNameRefusal, name_refusal};
 ghost use Rattle.fetch_specs.specs.Names.{name_trouble};
 ghost use Rattle.fetch_specs.specs.declared.error.NameError.TheVariants as name_errors;
 ghost use Rattle.fetch_clone.specs.Choices as spec;
-ghost use Rattle.fetch_clone.specs.Revisions.{IsRevisionRefusal, revision_of};
+ghost use Rattle.fetch_init.specs.Revisions.{IsRevisionRefusal, revision_of};
 ghost use Rattle.fetch_clone.specs.Stages.{ref_name_of, revision_of as revision_wanted};
 
-use crate::with_revision::{self, revision};
 use fetch_conversation::ref_map;
+use fetch_init::with_revision::{self, revision};
 use fetch_lookup::name;
 use fetch_negotiate::Shallow;
 use fetch_specs::{NameError, PartialName, RefSpec};

@@ -5,14 +5,13 @@ ghost use Rattle.fetch_base.specs.Faults.{Rose, Counts};
 ghost use Rattle.fetch_remote.specs.Finding.{is_no_address as is_no_address_of};
 ghost use Rattle.fetch_remote.specs.Repositories.{setup_of};
 ghost use Rattle.fetch_clone.specs.CloneStates as spec;
-ghost use Rattle.fetch_clone.specs.declared.clone.Error.TheVariants as errors;
+ghost use Rattle.fetch_init.specs.declared.clone.Error.TheVariants as errors;
 ghost use Rattle.fetch_clone.specs.CloneStates.{IsNoted, IsPrepared, IsPrepareRefusal, IsRemoved, is_clone_fault};
 
 use crate::choices::Choices;
-use crate::clone::Error;
-use crate::create::{self, Kind, Options};
-use crate::init::init_opts;
-use fetch_create::create::listed;
+use fetch_create::create::{self, Kind, Options, listed};
+use fetch_init::clone::Error;
+use fetch_init::init_opts;
 use fetch_refs::Signature;
 use fetch_remote::{OpenOptions, Repository};
 use fetch_store::{Files, List, NoMemory, Text};

@@ -7,13 +7,13 @@ ghost use Rattle.fetch_base.specs.Faults.{Rose, Counts};
 ghost use Rattle.fetch_clone.specs.Choices.{ChoosesRevision, RefNameVerdict, ref_name_chosen, with_wanted};
 ghost use Rattle.fetch_clone.specs.CloneStates.{IsPrepared, IsPrepareRefusal, IsRemoved, is_removed, is_clone_fault, with_choices};
 ghost use Rattle.fetch_clone.specs.CloneStates.{making_of};
-ghost use Rattle.fetch_clone.specs.Revisions.{IsRevisionRefusal};
-ghost use Rattle.fetch_clone.specs.declared.clone.Error.TheVariants as causes;
+ghost use Rattle.fetch_init.specs.Revisions.{IsRevisionRefusal};
+ghost use Rattle.fetch_init.specs.declared.clone.Error.TheVariants as causes;
 
 use crate::clone_state::{CloneState, Making, give_up, prepare};
-use crate::create::{Kind, Options};
-use crate::{clone, with_revision};
 use fetch_conversation::ref_map;
+use fetch_create::create::{Kind, Options};
+use fetch_init::{clone, with_revision};
 use fetch_lookup::name;
 use fetch_negotiate::Shallow;
 use fetch_refs::Signature;

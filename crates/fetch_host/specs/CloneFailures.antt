@@ -7,14 +7,14 @@ use Rattle.fetch_lookup.specs.declared.save.Error.{Error as SaveError}
 use Rattle.fetch_lookup.specs.declared.save.Error.TheVariants as save
 use Rattle.fetch_remote.specs.declared.connect.Error.{Error as ConnectError}
 use Rattle.fetch_remote.specs.declared.connect.Error.TheVariants as connect
-use Rattle.fetch_clone.specs.declared.clone.Error.{Error as PreparedError}
-use Rattle.fetch_clone.specs.declared.clone.Error.TheVariants as prepared
-use Rattle.fetch_clone.specs.declared.clone.fetch.Error.{Error as CloneError}
-use Rattle.fetch_clone.specs.declared.clone.fetch.Error.TheVariants as errors
+use Rattle.fetch_init.specs.declared.clone.Error.{Error as PreparedError}
+use Rattle.fetch_init.specs.declared.clone.Error.TheVariants as prepared
+use Rattle.fetch_init.specs.declared.clone.fetch.Error.{Error as CloneError}
+use Rattle.fetch_init.specs.declared.clone.fetch.Error.TheVariants as errors
 use Rattle.fetch_create.specs.declared.create.Error.{Error as CreateError}
 use Rattle.fetch_create.specs.declared.create.Error.TheVariants as create
-use Rattle.fetch_clone.specs.declared.init.Error.{Error as InitError}
-use Rattle.fetch_clone.specs.declared.init.Error.TheVariants as init
+use Rattle.fetch_init.specs.declared.init.Error.{Error as InitError}
+use Rattle.fetch_init.specs.declared.init.Error.TheVariants as init
 use Rattle.fetch_host.specs.FetchFailures.{listing_kind, preparing_kind, receiving_kind}
 use Rattle.fetch_host.specs.SharedFailures.{opening_kind}
 use Rattle.fetch_host.specs.declared.failure.FailureKind.{FailureKind}

@@ -8,7 +8,6 @@ ghost use Rattle.fetch_clone.specs.Cloned.{IsCompleted, IsUncompleted};
 ghost use Rattle.fetch_clone.specs.Counted.{BlamesLent, counts_by};
 ghost use Rattle.fetch_clone.specs.Reached.{line, ways};
 
-use crate::clone::fetch::Error;
 use crate::clone_state::CloneState;
 use crate::fetching::finishing::finished;
 use crate::fetching::listing::listed;
@@ -17,6 +16,7 @@ use crate::fetching::taking::taken;
 use crate::prepare_fetch::ConfigureFault;
 use fetch_config::File;
 use fetch_conversation::Progress;
+use fetch_init::clone::fetch::Error;
 use fetch_remote::connect::Connect;
 use fetch_remote::{Outcome, Repository};
 use fetch_store::{Files, Kind};

@@ -7,14 +7,14 @@ ghost use Rattle.fetch_clone.specs.Cloned.{IsCloned, IsUncloned};
 ghost use Rattle.fetch_clone.specs.Counted.{BlamesLent, CountsBy, Later, counts_by, meters, tree_meters};
 ghost use Rattle.fetch_clone.specs.CloneStates.{without_repo};
 ghost use Rattle.fetch_clone.specs.Reached.{line, ways};
-ghost use Rattle.fetch_clone.specs.declared.clone.fetch.Error.TheVariants as errors;
+ghost use Rattle.fetch_init.specs.declared.clone.fetch.Error.TheVariants as errors;
 
-use crate::clone::fetch::Error;
 use crate::clone_state::CloneState;
 use crate::fetching::completing::completed;
 use crate::fetching::saving::save;
 use crate::prepare_fetch::{ConfigureFault, PrepareFetch};
 use fetch_conversation::Progress;
+use fetch_init::clone::fetch::Error;
 use fetch_remote::connect::Connect;
 use fetch_remote::{Outcome, Remote, Repository};
 use fetch_store::Files;

@@ -5,14 +5,13 @@ ghost use Rattle.std.specs.Option.{option_copied};
 ghost use Rattle.fetch_base.specs.Faults.{Counts, Rose};
 ghost use Rattle.fetch_remote.specs.Repositories.{setup_of, state_of};
 ghost use Rattle.fetch_clone.specs.Cloned.{IsFinished, IsInForce, IsUnfinished};
-ghost use Rattle.fetch_clone.specs.declared.clone.fetch.Error.TheVariants as errors;
+ghost use Rattle.fetch_init.specs.declared.clone.fetch.Error.TheVariants as errors;
 
-use crate::clone::fetch::Error;
 use crate::clone_state::CloneState;
 use crate::fetching::receiving::message_of;
-use crate::head_update::update_head;
-use crate::remote_section::append_config_to_repo_config;
 use fetch_config::File;
+use fetch_init::clone::fetch::Error;
+use fetch_init::laws::{append_config_to_repo_config, update_head};
 use fetch_remote::Repository;
 use fetch_store::{Files, NoMemory};
 use fetch_wire::RefMap;

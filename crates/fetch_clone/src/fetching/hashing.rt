@@ -6,13 +6,12 @@ ghost use Rattle.fetch_remote.specs.Repositories.{setup_of};
 ghost use Rattle.fetch_remote.specs.declared.repository.open_error.OpenError.TheVariants as opening;
 ghost use Rattle.fetch_clone.specs.Hashed as spec;
 ghost use Rattle.fetch_clone.specs.Hashed.{IsHashed, IsUnhashed};
-ghost use Rattle.fetch_clone.specs.declared.clone.fetch.Error.TheVariants as errors;
+ghost use Rattle.fetch_init.specs.declared.clone.fetch.Error.TheVariants as errors;
 
-use crate::clone::fetch::Error;
-use crate::head_update::write_local;
-use crate::init::opening::config_path;
 use fetch_config::File;
 use fetch_create::set_version;
+use fetch_init::clone::fetch::Error;
+use fetch_init::{config_path, write_local};
 use fetch_remote::{OpenError, Repository, Resolved, read_configuration};
 use fetch_store::{Files, Kind};
 use std::alloc::Global;

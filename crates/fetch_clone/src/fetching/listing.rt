@@ -20,12 +20,12 @@ ghost use Rattle.fetch_clone.specs.Reached.{line, ways};
 ghost use Rattle.fetch_clone.specs.Stages.{ref_name_of};
 
 use crate::choices::{Choices, CloneTarget};
-use crate::clone::fetch::Error;
 use crate::fetching::reaching::reached;
 use crate::fetching::targeting::said;
-use crate::head_target::is_same_side;
 use crate::prepare_fetch::ConfigureFault;
 use fetch_conversation::{prepare, ref_map};
+use fetch_init::clone::fetch::Error;
+use fetch_init::is_same_side;
 use fetch_remote::connect::Connect;
 use fetch_remote::phases::listed_for;
 use fetch_remote::{Direction, Prepared, Remote, Repository};

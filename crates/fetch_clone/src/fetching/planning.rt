@@ -15,12 +15,12 @@ ghost use Rattle.fetch_clone.specs.Targets.{HeedsFirst};
 ghost use Rattle.fetch_create.specs.RemoteNames.{spec_text as tracked_text};
 
 use crate::choices::{Choices, CloneTarget};
-use crate::clone::fetch::Error;
 use crate::clone_state::{CloneState, append_texts};
 use crate::fetching::targeting::{said, target};
 use crate::prepare_fetch::ConfigureFault;
 use fetch_config::File;
 use fetch_create::{default_remote, spec_text};
+use fetch_init::clone::fetch::Error;
 use fetch_lookup::name;
 use fetch_remote::connect::Connect;
 use fetch_remote::{Direction, OpenError, Remote, Repository};

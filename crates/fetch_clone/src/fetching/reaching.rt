@@ -7,8 +7,8 @@ ghost use Rattle.fetch_remote.specs.Connecting.{out_after};
 ghost use Rattle.fetch_clone.specs.Reached as spec;
 ghost use Rattle.fetch_clone.specs.Reached.{IsReached, IsTurnedAway, IsUnreached, line, ways};
 
-use crate::clone::fetch::Error;
 use crate::prepare_fetch::ConfigureFault;
+use fetch_init::clone::fetch::Error;
 use fetch_remote::connect::Connect;
 use fetch_remote::{Direction, Remote};
 

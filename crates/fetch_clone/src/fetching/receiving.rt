@@ -9,13 +9,11 @@ ghost use Rattle.fetch_clone.specs.Received as spec;
 ghost use Rattle.fetch_clone.specs.Received.{IsReceived, IsUnreceived, WasListed};
 
 use crate::choices::CloneTarget;
-use crate::clone::fetch::Error;
 use crate::clone_state::CloneState;
 use crate::fetching::hashing::take_hash;
-use crate::head_target::{HeadError, revision_id};
-use crate::head_update::refusal_of;
-use crate::named_ref::ref_named;
 use fetch_conversation::Progress;
+use fetch_init::clone::fetch::Error;
+use fetch_init::{HeadError, ref_named, refusal_of, revision_id};
 use fetch_remote::phases::fetch_on;
 use fetch_remote::{Outcome, Prepared, Remote, Repository, Resolved};
 use fetch_specs::{PartialName, RefSpec};

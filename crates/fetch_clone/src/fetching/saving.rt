@@ -12,14 +12,14 @@ ghost use Rattle.fetch_clone.specs.Reached.{line, ways};
 ghost use Rattle.fetch_clone.specs.Saving as spec;
 ghost use Rattle.fetch_clone.specs.Targets.{HeedsFirst};
 ghost use Rattle.fetch_clone.specs.Saving.{IsNotSaved, IsSaved};
-ghost use Rattle.fetch_clone.specs.declared.clone.fetch.Error.TheVariants as errors;
+ghost use Rattle.fetch_init.specs.declared.clone.fetch.Error.TheVariants as errors;
 
-use crate::clone::fetch::Error;
 use crate::clone_state::CloneState;
 use crate::fetching::planning::{chosen, named};
 use crate::prepare_fetch::ConfigureFault;
-use crate::remote_section::append_remote_to_local_config_file;
 use fetch_config::File;
+use fetch_init::clone::fetch::Error;
+use fetch_init::laws::append_remote_to_local_config_file;
 use fetch_remote::connect::Connect;
 use fetch_remote::{Remote, Repository};
 use fetch_specs::{FullName, Tags};

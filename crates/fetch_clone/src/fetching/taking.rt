@@ -7,10 +7,10 @@ ghost use Rattle.fetch_clone.specs.Counted.{BlamesLent, counts_by};
 ghost use Rattle.fetch_clone.specs.Heeded.{IsHeededOver};
 ghost use Rattle.fetch_clone.specs.Received.{IsNotTaken, IsTaken, WasListed};
 
-use crate::clone::fetch::Error;
 use crate::clone_state::CloneState;
 use crate::fetching::receiving::received;
 use fetch_conversation::Progress;
+use fetch_init::clone::fetch::Error;
 use fetch_remote::connect::Connect;
 use fetch_remote::{Outcome, Prepared, Remote, Repository};
 use fetch_store::Files;

@@ -8,20 +8,19 @@ ghost use Rattle.fetch_specs.specs.declared.operation.Operation.TheVariants as o
 ghost use Rattle.fetch_remote.specs.Repositories.{state_of};
 ghost use Rattle.fetch_clone.specs.Blame.{BlamesMaker, BlamesStop, lent_maker, lost_first, stopped_first};
 ghost use Rattle.fetch_clone.specs.Heeded.{IsHeededOver};
-ghost use Rattle.fetch_clone.specs.HeadUpdates.{head_target_of};
+ghost use Rattle.fetch_init.specs.HeadUpdates.{head_target_of};
 ghost use Rattle.fetch_clone.specs.Reached.{line, ways};
 ghost use Rattle.fetch_clone.specs.Stages as stages;
 ghost use Rattle.fetch_clone.specs.Targets as spec;
 ghost use Rattle.fetch_clone.specs.Targets.{HasNoTarget, HasTarget};
 
 use crate::choices::Choices;
-use crate::clone::fetch::Error;
 use crate::clone_state::CloneState;
 use crate::fetching::reaching::reached;
-use crate::head_target::HeadTarget;
-use crate::head_update::find_head_target;
 use crate::prepare_fetch::ConfigureFault;
 use fetch_conversation::ref_map;
+use fetch_init::clone::fetch::Error;
+use fetch_init::{HeadTarget, find_head_target};
 use fetch_remote::connect::Connect;
 use fetch_remote::phases::inquired;
 use fetch_remote::{Remote, Repository};

@@ -1,7 +1,7 @@
 //! Failures of a clone.
 
 use crate::failure::{Failure, FailureKind};
-use fetch_clone::{clone, create, init};
+use fetch_init::{clone, create, init};
 use fetch_remote::{connect, name, save};
 
 impl Failure for connect::Error {

@@ -3,8 +3,8 @@ use Rattle.std.proofs.lemmas.Bool.{false≢true}
 use Rattle.std.proofs.lemmas.Result.{err_from_is_err_and}
 use Rattle.fetch_base.specs.Faults.{Rose-earlier}
 use Rattle.fetch_clone.proofs.Prepared.{has-address, preparing-fault, unprepared}
-use Rattle.fetch_clone.specs.CloneStates.{init_refusal}
-use Rattle.fetch_clone.specs.declared.clone.Error.TheVariants as errors
+use Rattle.fetch_init.specs.Refusals.{init_refusal}
+use Rattle.fetch_init.specs.declared.clone.Error.TheVariants as errors
 use Rattle.fetch_clone.proofs.clone_state.prepare.Goals as goal
 
 pub returns-in_err-repo-clause-refused : goal.returns-in_err-repo-clause-refused

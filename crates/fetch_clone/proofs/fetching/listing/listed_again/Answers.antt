@@ -4,7 +4,7 @@ use Rattle.fetch_base.specs.Faults.{Counts, Rose}
 use Rattle.fetch_conversation.specs.declared.prepare.Error.TheVariants as prepare
 use Rattle.fetch_conversation.specs.declared.ref_map.Error.TheVariants as ref_map
 use Rattle.fetch_clone.specs.Blame.{lost_listing, stopped_listing}
-use Rattle.fetch_clone.specs.Reached.{connecting}
+use Rattle.fetch_init.specs.Refusals.{connecting}
 use Rattle.fetch_clone.proofs.Answered.{none-at, none-made, unreached}
 use Rattle.fetch_clone.proofs.Blamed.{is-preparing, maker-unlent, not-preparing, stop-unlent}
 use Rattle.fetch_clone.proofs.fetching.listing.listed_again.Goals as goal

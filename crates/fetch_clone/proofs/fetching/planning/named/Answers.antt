@@ -1,7 +1,7 @@
 use Rattle.std.proofs.Common.{◌≡◌, refl, inl, inr}
 use Rattle.std.proofs.lemmas.Result.{err_from_is_err_and}
 use Rattle.fetch_conversation.specs.declared.ref_map.Error.TheVariants as ref_map
-use Rattle.fetch_clone.specs.declared.clone.fetch.Error.TheVariants as errors
+use Rattle.fetch_init.specs.declared.clone.fetch.Error.TheVariants as errors
 use Rattle.fetch_clone.proofs.Blamed.{maker-done, maker-refused, maker-unlent, stop-done, stop-refused, stop-unlent}
 use Rattle.fetch_clone.proofs.fetching.planning.named.Goals as goal
 

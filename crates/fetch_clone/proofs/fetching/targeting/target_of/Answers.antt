@@ -3,7 +3,7 @@ use Rattle.std.proofs.lemmas.Result.{err_from_is_err_and}
 use Rattle.std.proofs.lemmas.Bool.{false≢true}
 use Rattle.fetch_base.specs.Faults.{Counts, Rose}
 use Rattle.fetch_conversation.specs.declared.ref_map.Error.TheVariants as ref_map
-use Rattle.fetch_clone.specs.declared.clone.fetch.Error.TheVariants as errors
+use Rattle.fetch_init.specs.declared.clone.fetch.Error.TheVariants as errors
 use Rattle.fetch_clone.proofs.Answered.{is-listing}
 use Rattle.fetch_clone.proofs.Blamed.{maker-unlent, stop-unlent}
 use Rattle.fetch_clone.proofs.Counted.{at-ok}

@@ -1,0 +1,4 @@
+pub mod NamedRefs
+pub mod Alone
+pub mod Opened
+pub mod Headed
