@@ -21,9 +21,9 @@ use Rattle.fetch_remote.specs.declared.fetching.fetch_error.FetchError.{FetchErr
 use Rattle.fetch_remote.specs.declared.fetching.fetch_error.FetchError.TheVariants as errors
 use Rattle.fetch_remote.specs.declared.repository.open_error.OpenError.{OpenError}
 use Rattle.fetch_remote.specs.declared.repository.open_error.OpenError.TheVariants as opening
-use Rattle.fetch_shared.specs.Errors as shared
-use Rattle.fetch_shared.specs.declared.error.SharedError.{SharedError}
-use Rattle.fetch_shared.specs.declared.error.SharedError.TheVariants as sharing
+use Rattle.fetch_journal.specs.Errors as shared
+use Rattle.fetch_journal.specs.declared.error.SharedError.{SharedError}
+use Rattle.fetch_journal.specs.declared.error.SharedError.TheVariants as sharing
 use Rattle.fetch_host.specs.FetchFailures.{wire_kind, pack_kind, update_kind, listing_kind, preparing_kind, receiving_kind, fetch_kind}
 use Rattle.fetch_host.specs.SharedFailures.{opening_kind, deleting_kind, shared_kind}
 use Rattle.fetch_host.specs.declared.failure.FailureKind.{FailureKind}

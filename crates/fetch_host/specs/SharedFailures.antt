@@ -3,8 +3,8 @@ use Rattle.fetch_remote.specs.declared.delete.Error.{Error as DeleteError}
 use Rattle.fetch_remote.specs.declared.delete.Error.TheVariants as delete
 use Rattle.fetch_remote.specs.declared.repository.open_error.OpenError.{OpenError}
 use Rattle.fetch_remote.specs.declared.repository.open_error.OpenError.TheVariants as opening
-use Rattle.fetch_shared.specs.declared.error.SharedError.{SharedError}
-use Rattle.fetch_shared.specs.declared.error.SharedError.TheVariants as errors
+use Rattle.fetch_journal.specs.declared.error.SharedError.{SharedError}
+use Rattle.fetch_journal.specs.declared.error.SharedError.TheVariants as errors
 use Rattle.fetch_host.specs.FetchFailures.{fetch_kind}
 use Rattle.fetch_host.specs.declared.failure.FailureKind.{FailureKind}
 use Rattle.fetch_host.specs.declared.failure.FailureKind.TheVariants.{Others, Local, Server, Caller, Memory}

@@ -4,8 +4,8 @@
 ghost use Rattle.std.specs.Prelude.{◌≡◌, ◌↔◌, true};
 ghost use Rattle.fetch_remote.specs.Errors as fetched;
 ghost use Rattle.fetch_remote.specs.declared.fetching.fetch_error.FetchError.{FetchError};
-ghost use Rattle.fetch_shared.specs.Errors as shared;
-ghost use Rattle.fetch_shared.specs.declared.error.SharedError.{SharedError};
+ghost use Rattle.fetch_journal.specs.Errors as shared;
+ghost use Rattle.fetch_journal.specs.declared.error.SharedError.{SharedError};
 ghost use Rattle.fetch_host.specs.FetchFailures.{fetch_kind};
 ghost use Rattle.fetch_host.specs.SharedFailures.{shared_kind};
 ghost use Rattle.fetch_host.specs.declared.failure.FailureKind.TheVariants.{Peer, Stop};

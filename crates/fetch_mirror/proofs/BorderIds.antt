@@ -17,9 +17,9 @@ use Rattle.fetch_store.proofs.Borders.{named-Contains, named-ids_of}
 use Rattle.fetch_store.proofs.Keys.{keys-rise}
 use Rattle.fetch_store.proofs.Members.{first_in, later_in}
 use Rattle.fetch_reach.specs.Named.{own_id}
-use Rattle.fetch_shared.specs.Replays.{Outline, outline}
-use Rattle.fetch_shared.specs.Shared.{IsKept, SharedValue}
-use Rattle.fetch_shared.proofs.Replays.{replay_hash}
+use Rattle.fetch_journal.specs.Replays.{Outline, outline}
+use Rattle.fetch_journal.specs.Shared.{IsKept, SharedValue}
+use Rattle.fetch_journal.proofs.Replays.{replay_hash}
 use Rattle.fetch_lines.specs.ServerLines.{IsIdOf}
 use Rattle.fetch_asked.specs.Requests.{is_greater}
 use Rattle.fetch_serve.proofs.Ids.{own_is}

@@ -8,8 +8,8 @@ use Rattle.fetch_store.specs.Closed.{holding}
 use Rattle.fetch_store.specs.Missing.{unclosed}
 use Rattle.fetch_store.proofs.Unclosed.{closed_none}
 use Rattle.fetch_refs.specs.declared.log.Signature.{Signature}
-use Rattle.fetch_shared.specs.declared.error.SharedError.{SharedError}
-use Rattle.fetch_shared.specs.declared.error.SharedError.TheVariants as shared
+use Rattle.fetch_journal.specs.declared.error.SharedError.{SharedError}
+use Rattle.fetch_journal.specs.declared.error.SharedError.TheVariants as shared
 use Rattle.fetch_serve.specs.Peers.{ServedPeer}
 use Rattle.fetch_serve.specs.Servable.{IsServable, IsTrouble, unservable_names}
 use Rattle.fetch_serve.specs.Served.{Data}

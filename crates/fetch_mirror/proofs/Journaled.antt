@@ -22,9 +22,9 @@ use Rattle.fetch_refs.specs.declared.edit.RefLog.TheVariants.{AndReference, Only
 use Rattle.fetch_refs.specs.declared.target.Target.{Target}
 use Rattle.fetch_refs.proofs.LastEdits.{last_edit}
 use Rattle.fetch_serve.proofs.Needed.{merged_none}
-use Rattle.fetch_shared.specs.Replays.{Outline, played, replay}
-use Rattle.fetch_shared.specs.declared.entry.Entry.{Entry}
-use Rattle.fetch_shared.specs.declared.entry.Entry.TheVariants.{Take, Commit, Delete}
+use Rattle.fetch_journal.specs.Replays.{Outline, played, replay}
+use Rattle.fetch_journal.specs.declared.entry.Entry.{Entry}
+use Rattle.fetch_journal.specs.declared.entry.Entry.TheVariants.{Take, Commit, Delete}
 use Rattle.fetch_update.specs.Writes.{gives}
 
 -- ---- ids

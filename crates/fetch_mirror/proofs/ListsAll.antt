@@ -17,8 +17,8 @@ use Rattle.fetch_serve.specs.Servable.{IsServable}
 use Rattle.fetch_serve.specs.Served.{Data}
 use Rattle.fetch_asked.specs.declared.asked.Asked.TheVariants.{First, Listing}
 use Rattle.fetch_shared.specs.Conversed.{given_to}
-use Rattle.fetch_shared.specs.declared.entry.Entry.{Entry}
-use Rattle.fetch_shared.specs.declared.error.SharedError.TheVariants as shared
+use Rattle.fetch_journal.specs.declared.entry.Entry.{Entry}
+use Rattle.fetch_journal.specs.declared.error.SharedError.TheVariants as shared
 use Rattle.fetch_mirror.specs.Copying.{fresh, given_by}
 use Rattle.fetch_mirror.specs.Limits.{AreWithin, IsShare, IsWithin, worker_given}
 use Rattle.fetch_mirror.specs.Mirroring.{IsFew, IsUnlisted, IsWorkerRefused, worker_job}

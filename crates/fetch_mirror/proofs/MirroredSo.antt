@@ -8,12 +8,12 @@ use Rattle.std.proofs.lemmas.List.{length-map}
 use Rattle.fetch_refs.specs.declared.target.Target.{Target}
 use Rattle.fetch_remote.specs.RepositoryValues.{RepositoryValue}
 use Rattle.fetch_remote.specs.declared.fetching.outcome.Outcome.{Outcome}
-use Rattle.fetch_shared.specs.declared.entry.Entry.{Entry}
-use Rattle.fetch_shared.specs.declared.error.SharedError.{SharedError}
-use Rattle.fetch_shared.specs.declared.error.SharedError.TheVariants as shared
+use Rattle.fetch_journal.specs.declared.entry.Entry.{Entry}
+use Rattle.fetch_journal.specs.declared.error.SharedError.{SharedError}
+use Rattle.fetch_journal.specs.declared.error.SharedError.TheVariants as shared
 use Rattle.fetch_shared.specs.declared.receipt.Receipt.{Receipt}
-use Rattle.fetch_shared.specs.Journals.{pass_of}
-use Rattle.fetch_shared.specs.Shared.{IsKept}
+use Rattle.fetch_journal.specs.Journals.{pass_of}
+use Rattle.fetch_journal.specs.Shared.{IsKept}
 use Rattle.fetch_race.specs.Passes.{HaveRaced, answer_in}
 use Rattle.fetch_race.specs.declared.job.Job.{Job}
 use Rattle.fetch_race.specs.declared.job.JobRun.{JobRun}

@@ -13,17 +13,17 @@ use Rattle.fetch_update.proofs.Wholes.{none_refused}
 use Rattle.fetch_remote.specs.RepositoryValues.{RepositoryValue}
 use Rattle.fetch_remote.specs.Applying.{policy_in}
 use Rattle.fetch_remote.specs.declared.fetching.outcome.Outcome.{Outcome}
-use Rattle.fetch_shared.specs.declared.entry.Entry.{Entry}
-use Rattle.fetch_shared.specs.declared.entry.Entry.TheVariants.{Take, Commit, Delete}
-use Rattle.fetch_shared.specs.declared.error.SharedError.{SharedError}
-use Rattle.fetch_shared.specs.declared.error.SharedError.TheVariants as errors
+use Rattle.fetch_journal.specs.declared.entry.Entry.{Entry}
+use Rattle.fetch_journal.specs.declared.entry.Entry.TheVariants.{Take, Commit, Delete}
+use Rattle.fetch_journal.specs.declared.error.SharedError.{SharedError}
+use Rattle.fetch_journal.specs.declared.error.SharedError.TheVariants as errors
 use Rattle.fetch_shared.specs.Fetching.{Call, IsStopped, course_in, matter_in}
-use Rattle.fetch_shared.specs.Journals.{entries_of, pass_of}
-use Rattle.fetch_shared.specs.Replays.{Outline, outline, replay}
+use Rattle.fetch_journal.specs.Journals.{entries_of, pass_of}
+use Rattle.fetch_journal.specs.Replays.{Outline, outline, replay}
 use Rattle.fetch_shared.specs.Applying.{Course, IsUncommitted, Matter}
-use Rattle.fetch_shared.specs.Shared.{IsKept, SharedValue}
+use Rattle.fetch_journal.specs.Shared.{IsKept, SharedValue}
 use Rattle.fetch_shared.specs.Conversed.{Line, given_to}
-use Rattle.fetch_shared.proofs.Refusals.{met_commit}
+use Rattle.fetch_journal.proofs.Refusals.{met_commit}
 use Rattle.fetch_race.specs.Racing.{AreRaced, HasRaced, Race}
 use Rattle.fetch_race.specs.declared.job.Job.{Job}
 use Rattle.fetch_race.proofs.Rows.{there}

@@ -40,16 +40,16 @@ use Rattle.fetch_remote.specs.Stages.{Told, terms_in}
 use Rattle.fetch_remote.specs.Conversed.{BreaksReceiving}
 use Rattle.fetch_remote.specs.declared.fetching.fetch_error.FetchError.TheVariants as fetch
 use Rattle.fetch_remote.specs.declared.fetching.outcome.Outcome.{Outcome}
-use Rattle.fetch_shared.specs.declared.entry.Entry.{Entry}
-use Rattle.fetch_shared.specs.declared.error.SharedError.{SharedError}
-use Rattle.fetch_shared.specs.declared.error.SharedError.TheVariants as shared
+use Rattle.fetch_journal.specs.declared.entry.Entry.{Entry}
+use Rattle.fetch_journal.specs.declared.error.SharedError.{SharedError}
+use Rattle.fetch_journal.specs.declared.error.SharedError.TheVariants as shared
 use Rattle.fetch_shared.specs.Fetching.{Call, HasConversed, IsStopped, IsUnanswered, course_in, matter_in}
-use Rattle.fetch_shared.specs.Machine.{held as held_in}
+use Rattle.fetch_journal.specs.Machine.{held as held_in}
 use Rattle.fetch_shared.specs.Seen.{IsStateAt}
 use Rattle.fetch_shared.specs.Applying.{IsUnjudged, IsUntaken, Matter}
-use Rattle.fetch_shared.specs.Shared.{SharedValue}
+use Rattle.fetch_journal.specs.Shared.{SharedValue}
 use Rattle.fetch_shared.specs.Conversed.{Line}
-use Rattle.fetch_shared.proofs.Refusals as refusals
+use Rattle.fetch_journal.proofs.Refusals as refusals
 use Rattle.fetch_race.specs.Racing.{HasRaced}
 use Rattle.fetch_serve.specs.Packs.{pack_of}
 use Rattle.fetch_serve.specs.Peers.{ServedPeer, told_by}

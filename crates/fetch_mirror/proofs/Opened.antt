@@ -15,7 +15,7 @@ use Rattle.fetch_refs.specs.declared.log.Signature.{Signature}
 use Rattle.fetch_remote.specs.Repositories.{setup_in, setup_of, state_in, state_of}
 use Rattle.fetch_remote.specs.RepositoryValues.{RepositoryValue, logging_of}
 use Rattle.fetch_remote.specs.declared.repository.Parts.{Parts}
-use Rattle.fetch_shared.specs.Machine.{held}
+use Rattle.fetch_journal.specs.Machine.{held}
 use Rattle.fetch_mirror.specs.Opening.{bare_setup, empty_mirror, empty_state}
 use Rattle.fetch_mirror.specs.Settings.{config_from, config_text, own_meta}
 use Rattle.fetch_mirror.proofs.NoopRead.{one_section, section}

@@ -23,14 +23,14 @@ use Rattle.fetch_remote.specs.Stages.{Told, inquiry_in}
 use Rattle.fetch_remote.specs.declared.fetching.options.FetchOptions.{FetchOptions}
 use Rattle.fetch_remote.specs.declared.fetching.fetch_error.FetchError.TheVariants as fetch
 use Rattle.fetch_remote.specs.declared.fetching.outcome.Outcome.{Outcome}
-use Rattle.fetch_shared.specs.declared.entry.Entry.{Entry}
-use Rattle.fetch_shared.specs.declared.entry.Entry.TheVariants.{Take, Commit, Delete}
-use Rattle.fetch_shared.specs.declared.error.SharedError.{SharedError}
-use Rattle.fetch_shared.specs.declared.error.SharedError.TheVariants as errors
+use Rattle.fetch_journal.specs.declared.entry.Entry.{Entry}
+use Rattle.fetch_journal.specs.declared.entry.Entry.TheVariants.{Take, Commit, Delete}
+use Rattle.fetch_journal.specs.declared.error.SharedError.{SharedError}
+use Rattle.fetch_journal.specs.declared.error.SharedError.TheVariants as errors
 use Rattle.fetch_shared.specs.declared.receipt.Receipt.{Receipt}
 use Rattle.fetch_shared.specs.PackTaken.{take_entries}
 use Rattle.fetch_shared.specs.Fetching.{Call, HasConversed, IsSharedFetch, IsSharedRefused, IsStopped, RanOut, course_in, matter_in, own}
-use Rattle.fetch_shared.specs.Journals.{entries_of}
+use Rattle.fetch_journal.specs.Journals.{entries_of}
 use Rattle.fetch_shared.specs.Applying.{Commits, Course, ForgotEarly, ForgotLate, ForgotMaking, HasCommitted, HasJudged, HasTaken, IsForgotten, IsUncommitted, IsUnjudged, IsUnkept, IsUnremoved, IsUntaken, Matter, commit_entry, reply_in}
 use Rattle.fetch_shared.specs.Conversed.{Line, given_to}
 use Rattle.fetch_race.specs.Racing.{HasRaced, IsAnswered, Race}

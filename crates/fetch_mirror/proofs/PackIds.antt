@@ -14,8 +14,8 @@ use Rattle.fetch_refs.specs.declared.edit.RefEdit.{RefEdit}
 use Rattle.fetch_refs.specs.declared.log.Signature.{Signature}
 use Rattle.fetch_reach.specs.Stored.{entry_at}
 use Rattle.fetch_conversation.specs.declared.conversing.Received.{Received}
-use Rattle.fetch_shared.specs.declared.entry.Entry.{Entry}
-use Rattle.fetch_shared.specs.declared.entry.Entry.TheVariants.{Take, Commit}
+use Rattle.fetch_journal.specs.declared.entry.Entry.{Entry}
+use Rattle.fetch_journal.specs.declared.entry.Entry.TheVariants.{Take, Commit}
 use Rattle.fetch_shared.specs.PackTaken.{take_entries}
 use Rattle.fetch_asked.specs.declared.asked.FetchAsked.{FetchAsked}
 use Rattle.fetch_serve.specs.Depths.{depth_of}

@@ -11,13 +11,13 @@ use Rattle.fetch_conversation.specs.declared.conversing.Received.{Received}
 use Rattle.fetch_remote.specs.RepositoryValues.{RepositoryValue}
 use Rattle.fetch_remote.specs.Stages.{Told, terms_in}
 use Rattle.fetch_remote.specs.declared.fetching.outcome.Outcome.{Outcome}
-use Rattle.fetch_shared.specs.declared.entry.Entry.{Entry}
-use Rattle.fetch_shared.specs.declared.error.SharedError.{SharedError}
+use Rattle.fetch_journal.specs.declared.entry.Entry.{Entry}
+use Rattle.fetch_journal.specs.declared.error.SharedError.{SharedError}
 use Rattle.fetch_shared.specs.Fetching.{HasConversed}
-use Rattle.fetch_shared.specs.Journals.{entries_of, pass_of}
-use Rattle.fetch_shared.specs.Replays.{Outline, outline}
+use Rattle.fetch_journal.specs.Journals.{entries_of, pass_of}
+use Rattle.fetch_journal.specs.Replays.{Outline, outline}
 use Rattle.fetch_shared.specs.Seen.{IsStateAt}
-use Rattle.fetch_shared.specs.Shared.{SharedValue}
+use Rattle.fetch_journal.specs.Shared.{SharedValue}
 use Rattle.fetch_race.specs.Racing.{HasRaced}
 use Rattle.fetch_race.proofs.Rows.{there}
 use Rattle.fetch_serve.specs.Peers.{ServedPeer}

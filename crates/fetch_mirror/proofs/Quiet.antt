@@ -12,10 +12,10 @@ use Rattle.fetch_refs.specs.Names.{Names}
 use Rattle.fetch_refs.specs.declared.edit.RefEdit.{RefEdit}
 use Rattle.fetch_refs.specs.declared.target.Target.{Target}
 use Rattle.fetch_refs.proofs.LastEdits.{last_edit}
-use Rattle.fetch_shared.specs.Machine.{commit_refusal}
-use Rattle.fetch_shared.specs.Replays.{Outline, played, replay}
-use Rattle.fetch_shared.specs.declared.entry.Entry.{Entry}
-use Rattle.fetch_shared.specs.declared.entry.Entry.TheVariants.{Take, Commit, Delete}
+use Rattle.fetch_journal.specs.Machine.{commit_refusal}
+use Rattle.fetch_journal.specs.Replays.{Outline, played, replay}
+use Rattle.fetch_journal.specs.declared.entry.Entry.{Entry}
+use Rattle.fetch_journal.specs.declared.entry.Entry.TheVariants.{Take, Commit, Delete}
 
 -- no edit is on this name
 abbrev pub AreOff : List ℕ → List RefEdit → Type 0

@@ -28,13 +28,13 @@ use Rattle.fetch_conversation.specs.declared.conversing.Received.{Received}
 use Rattle.fetch_remote.specs.RepositoryValues.{RepositoryValue}
 use Rattle.fetch_remote.specs.Stages.{Told, terms_in}
 use Rattle.fetch_remote.specs.declared.fetching.outcome.Outcome.{Outcome}
-use Rattle.fetch_shared.specs.declared.entry.Entry.{Entry}
-use Rattle.fetch_shared.specs.declared.entry.Entry.TheVariants.{Take, Commit}
-use Rattle.fetch_shared.specs.declared.error.SharedError.{SharedError}
+use Rattle.fetch_journal.specs.declared.entry.Entry.{Entry}
+use Rattle.fetch_journal.specs.declared.entry.Entry.TheVariants.{Take, Commit}
+use Rattle.fetch_journal.specs.declared.error.SharedError.{SharedError}
 use Rattle.fetch_shared.specs.PackTaken.{take_entries}
-use Rattle.fetch_shared.specs.Journals.{entries_of, pass_of}
-use Rattle.fetch_shared.specs.Replays.{Outline, outline}
-use Rattle.fetch_shared.proofs.Replays.{contains-ids, replay_hash}
+use Rattle.fetch_journal.specs.Journals.{entries_of, pass_of}
+use Rattle.fetch_journal.specs.Replays.{Outline, outline}
+use Rattle.fetch_journal.proofs.Replays.{contains-ids, replay_hash}
 use Rattle.fetch_race.specs.Racing.{HasRaced}
 use Rattle.fetch_race.specs.declared.job.Job.{Job}
 use Rattle.fetch_race.proofs.Rows.{there}

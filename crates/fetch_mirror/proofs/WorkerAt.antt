@@ -5,8 +5,8 @@ use Rattle.fetch_base.specs.declared.id.ObjectId.{ObjectId}
 use Rattle.fetch_refs.specs.declared.log.Signature.{Signature}
 use Rattle.fetch_remote.specs.RepositoryValues.{RepositoryValue}
 use Rattle.fetch_remote.specs.declared.fetching.outcome.Outcome.{Outcome}
-use Rattle.fetch_shared.specs.declared.entry.Entry.{Entry}
-use Rattle.fetch_shared.specs.declared.error.SharedError.{SharedError}
+use Rattle.fetch_journal.specs.declared.entry.Entry.{Entry}
+use Rattle.fetch_journal.specs.declared.error.SharedError.{SharedError}
 use Rattle.fetch_race.specs.Racing.{HasRaced}
 use Rattle.fetch_race.specs.declared.job.Job.{Job}
 use Rattle.fetch_race.proofs.Rows.{there}

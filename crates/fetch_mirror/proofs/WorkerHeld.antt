@@ -26,17 +26,17 @@ use Rattle.fetch_remote.specs.Stages.{Told, conversation}
 use Rattle.fetch_remote.specs.declared.fetching.fetch_error.FetchError.{FetchError}
 use Rattle.fetch_remote.specs.declared.fetching.fetch_error.FetchError.TheVariants as fetch
 use Rattle.fetch_remote.specs.declared.fetching.outcome.Outcome.{Outcome}
-use Rattle.fetch_shared.specs.declared.entry.Entry.{Entry}
-use Rattle.fetch_shared.specs.declared.entry.Entry.TheVariants.{Take, Commit}
-use Rattle.fetch_shared.specs.declared.error.SharedError.{SharedError}
-use Rattle.fetch_shared.specs.declared.error.SharedError.TheVariants as errors
+use Rattle.fetch_journal.specs.declared.entry.Entry.{Entry}
+use Rattle.fetch_journal.specs.declared.entry.Entry.TheVariants.{Take, Commit}
+use Rattle.fetch_journal.specs.declared.error.SharedError.{SharedError}
+use Rattle.fetch_journal.specs.declared.error.SharedError.TheVariants as errors
 use Rattle.fetch_shared.specs.PackTaken.{take_entries}
 use Rattle.fetch_shared.specs.Fetching.{Call, HasConversed, IsSharedRefused, IsStopped, RanOut, course_in, matter_in, own}
-use Rattle.fetch_shared.specs.Journals.{Begins, entries_of, pass_of}
-use Rattle.fetch_shared.specs.Replays.{Outline, outline, replay}
+use Rattle.fetch_journal.specs.Journals.{Begins, entries_of, pass_of}
+use Rattle.fetch_journal.specs.Replays.{Outline, outline, replay}
 use Rattle.fetch_shared.specs.Seen.{IsStateAt}
 use Rattle.fetch_shared.specs.Applying.{Commits, Course, ForgotEarly, ForgotLate, ForgotMaking, HasJudged, HasTaken, IsForgotten, IsUncommitted, IsUnjudged, IsUnkept, IsUnremoved, IsUntaken, Matter, commit_entry}
-use Rattle.fetch_shared.specs.Shared.{SharedValue}
+use Rattle.fetch_journal.specs.Shared.{SharedValue}
 use Rattle.fetch_shared.specs.Conversed.{Line, given_to}
 use Rattle.fetch_race.specs.Racing.{HasRaced, IsAnswered, Race}
 use Rattle.fetch_serve.specs.Peers.{ServedPeer, faults_of, heard_by, talk_with, told_by}

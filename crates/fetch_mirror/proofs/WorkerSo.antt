@@ -23,14 +23,14 @@ use Rattle.fetch_remote.specs.Applying.{policy_in}
 use Rattle.fetch_remote.specs.Stages.{Told, conversation, inquiry_in}
 use Rattle.fetch_remote.specs.declared.fetching.fetch_error.FetchError.{FetchError}
 use Rattle.fetch_remote.specs.declared.fetching.outcome.Outcome.{Outcome}
-use Rattle.fetch_shared.specs.declared.entry.Entry.{Entry}
-use Rattle.fetch_shared.specs.declared.entry.Entry.TheVariants.{Commit}
+use Rattle.fetch_journal.specs.declared.entry.Entry.{Entry}
+use Rattle.fetch_journal.specs.declared.entry.Entry.TheVariants.{Commit}
 use Rattle.fetch_shared.specs.PackTaken.{take_entries}
 use Rattle.fetch_shared.specs.Fetching.{Call, IsSharedFetch, matter_in}
-use Rattle.fetch_shared.specs.Journals.{Begins, entries_of, pass_of}
-use Rattle.fetch_shared.specs.Replays.{outline, replay}
+use Rattle.fetch_journal.specs.Journals.{Begins, entries_of, pass_of}
+use Rattle.fetch_journal.specs.Replays.{outline, replay}
 use Rattle.fetch_shared.specs.Applying.{HasCommitted}
-use Rattle.fetch_shared.specs.Shared.{SharedValue}
+use Rattle.fetch_journal.specs.Shared.{SharedValue}
 use Rattle.fetch_race.specs.Racing.{HasRaced}
 use Rattle.fetch_serve.specs.Peers.{ServedPeer}
 use Rattle.fetch_serve.specs.Replies.{replies_of}

@@ -8,8 +8,8 @@ use Rattle.fetch_base.specs.declared.id.ObjectId.{ObjectId}
 use Rattle.fetch_reach.specs.Named.{own_id}
 use Rattle.fetch_serve.specs.Servable.{IsServable}
 use Rattle.fetch_serve.specs.Served.{Data}
-use Rattle.fetch_shared.specs.declared.error.SharedError.{SharedError}
-use Rattle.fetch_shared.specs.declared.error.SharedError.TheVariants as shared
+use Rattle.fetch_journal.specs.declared.error.SharedError.{SharedError}
+use Rattle.fetch_journal.specs.declared.error.SharedError.TheVariants as shared
 use Rattle.fetch_mirror.specs.declared.error.MirrorError.{MirrorError}
 use Rattle.fetch_mirror.specs.declared.error.MirrorError.TheVariants as errors
 use Rattle.fetch_mirror.specs.Limits.{AreWithin}

@@ -7,7 +7,7 @@ use Rattle.fetch_serve.specs.Peers.{ServedPeer, faults_of, told_by}
 use Rattle.fetch_serve.specs.Servable.{IsServable, IsTrouble}
 use Rattle.fetch_serve.specs.Served.{Data}
 use Rattle.fetch_asked.specs.declared.error.ServeError.TheVariants as serve
-use Rattle.fetch_shared.specs.declared.entry.Entry.{Entry}
+use Rattle.fetch_journal.specs.declared.entry.Entry.{Entry}
 use Rattle.fetch_mirror.specs.declared.error.MirrorError.{MirrorError}
 use Rattle.fetch_mirror.specs.declared.error.MirrorError.TheVariants as errors
 use Rattle.fetch_mirror.specs.Born.{born_names}

@@ -21,13 +21,13 @@ use Rattle.fetch_remote.specs.Remotes.{RemoteValue, nameless}
 use Rattle.fetch_remote.specs.RepositoryValues.{RepositoryValue}
 use Rattle.fetch_remote.specs.declared.fetching.options.FetchOptions.{FetchOptions}
 use Rattle.fetch_remote.specs.declared.fetching.outcome.Outcome.{Outcome}
-use Rattle.fetch_shared.specs.declared.entry.Entry.{Entry}
-use Rattle.fetch_shared.specs.declared.error.SharedError.{SharedError}
+use Rattle.fetch_journal.specs.declared.entry.Entry.{Entry}
+use Rattle.fetch_journal.specs.declared.error.SharedError.{SharedError}
 use Rattle.fetch_race.specs.Racing.{IsRaced, Race}
 use Rattle.fetch_race.specs.declared.job.Job.{Job}
 use Rattle.fetch_race.specs.declared.job.JobRun.{JobRun}
 use Rattle.fetch_race.specs.Passes.{answer_in}
-use Rattle.fetch_shared.specs.declared.error.SharedError.TheVariants as shared
+use Rattle.fetch_journal.specs.declared.error.SharedError.TheVariants as shared
 use Rattle.fetch_mirror.specs.declared.error.MirrorError.{MirrorError}
 use Rattle.fetch_mirror.specs.declared.error.MirrorError.TheVariants as errors
 use Rattle.fetch_mirror.specs.declared.options.MirrorOptions.{MirrorOptions}

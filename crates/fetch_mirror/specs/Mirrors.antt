@@ -12,10 +12,10 @@ use Rattle.fetch_refs.specs.declared.target.Target.TheVariants.{Object}
 use Rattle.fetch_reach.specs.Named.{AreOwnIds}
 use Rattle.fetch_remote.specs.RepositoryValues.{RepositoryValue}
 use Rattle.fetch_serve.specs.Served.{Data}
-use Rattle.fetch_shared.specs.Fronts.{IsSound}
-use Rattle.fetch_shared.specs.Journals.{entries_of}
-use Rattle.fetch_shared.specs.declared.entry.Entry.{Entry}
-use Rattle.fetch_shared.specs.declared.entry.Entry.TheVariants.{Take, Commit}
+use Rattle.fetch_journal.specs.Fronts.{IsSound}
+use Rattle.fetch_journal.specs.Journals.{entries_of}
+use Rattle.fetch_journal.specs.declared.entry.Entry.{Entry}
+use Rattle.fetch_journal.specs.declared.entry.Entry.TheVariants.{Take, Commit}
 use Rattle.fetch_mirror.specs.Born.{born_names, born_of}
 use Rattle.fetch_mirror.specs.Shares.{dealt_to}
 

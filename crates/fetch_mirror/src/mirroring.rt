@@ -2,7 +2,7 @@
 
 ghost use Rattle.std.specs.Prelude.{◌≡◌, ◌↔◌, ◌≤◌, [], None, length, IfOk, IfErr, IfSome, IsTrue, OnOk};
 ghost use Rattle.fetch_race.specs.Passes.{IsRest};
-ghost use Rattle.fetch_shared.specs.Machine.{held};
+ghost use Rattle.fetch_journal.specs.Machine.{held};
 ghost use Rattle.fetch_store.specs.Missing.{unclosed};
 ghost use Rattle.fetch_mirror.specs.Mirroring.{AreUnrefused, HasListed, HasMirrored, IsFew, IsRefusalOf, IsToldOf, IsUnmirrored, IsUnnamed};
 ghost use Rattle.fetch_mirror.specs.Mirroring.{IsUnrefused, TellsFirst, asking_by, given_for};

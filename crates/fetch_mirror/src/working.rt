@@ -3,8 +3,8 @@
 ghost use Rattle.std.specs.Prelude.{◌≡◌, ℕ, ◌<◌, ◌≤◌, All, [], IfOk, IfSome, length, map, slice_index_or};
 ghost use Rattle.fetch_race.specs.Racing.{IsRun};
 ghost use Rattle.fetch_race.specs.Passes.{HaveRaced, IsRest};
-ghost use Rattle.fetch_shared.specs.Journals.{pass_of};
-ghost use Rattle.fetch_shared.specs.Shared.{IsKept};
+ghost use Rattle.fetch_journal.specs.Journals.{pass_of};
+ghost use Rattle.fetch_journal.specs.Shared.{IsKept};
 ghost use Rattle.fetch_mirror.specs.Lent.{all_owning, owning};
 ghost use Rattle.fetch_mirror.specs.Mirroring as spec;
 ghost use Rattle.fetch_mirror.specs.Mirroring.{AreWorkers};

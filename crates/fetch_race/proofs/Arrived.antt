@@ -2,8 +2,8 @@
 use Rattle.std.proofs.Common.{◌≡◌, ◌≢◌, ◌⊎◌, ℕ, suc, ◌+◌, ◌<◌, ◌≤◌, All, cond, List, [], ◌∷◌, ◌++◌, length, set, Some, refl, sym, ap, ◌∙◌, subst, inl, inr, ⊎_elim, arith, append_assoc, ne_eqb}
 use Rattle.std.specs.Prelude.{slice_get, IfSome, Option}
 use Rattle.std.proofs.lemmas.Bool.{cases_lt}
-use Rattle.fetch_shared.specs.declared.entry.Entry.{Entry}
-use Rattle.fetch_shared.specs.Journals.{Begins, entries_of, pass_of}
+use Rattle.fetch_journal.specs.declared.entry.Entry.{Entry}
+use Rattle.fetch_journal.specs.Journals.{Begins, entries_of, pass_of}
 use Rattle.fetch_shared.specs.Numbers.{Holds}
 use Rattle.fetch_shared.specs.Passes.{Holder, Which}
 use Rattle.fetch_race.specs.declared.job.JobRun.{JobRun}

@@ -14,10 +14,10 @@ use Rattle.fetch_conversation.specs.declared.fetch.Error.TheVariants as receive
 use Rattle.fetch_remote.specs.Keeping.{with_keep}
 use Rattle.fetch_remote.specs.Applying.{pack_read}
 use Rattle.fetch_remote.specs.declared.fetching.fetch_error.FetchError.TheVariants as fetch
-use Rattle.fetch_shared.specs.declared.error.SharedError.{SharedError}
-use Rattle.fetch_shared.specs.declared.error.SharedError.TheVariants as errors
+use Rattle.fetch_journal.specs.declared.error.SharedError.{SharedError}
+use Rattle.fetch_journal.specs.declared.error.SharedError.TheVariants as errors
 use Rattle.fetch_shared.specs.declared.receipt.Receipt.{Receipt}
-use Rattle.fetch_shared.specs.Errors.{is_yes}
+use Rattle.fetch_journal.specs.Errors.{is_yes}
 use Rattle.fetch_shared.specs.Fetching.{Call, IsSharedRefused, course_in, matter_in, IsStopped}
 use Rattle.fetch_shared.specs.Applying as settling
 use Rattle.fetch_shared.specs.Applying.{IsUnkept}

@@ -2,8 +2,8 @@
 use Rattle.std.proofs.Common.{◌≡◌, Option, Some, None, Result, Ok, Err, ap, ◌∙◌}
 use Rattle.std.specs.Prelude.{MatchOption, IsOkUnless}
 use Rattle.fetch_store.specs.declared.missing.Missing.{Missing}
-use Rattle.fetch_shared.specs.declared.error.SharedError.{SharedError}
-use Rattle.fetch_shared.specs.declared.error.SharedError.TheVariants as errors
+use Rattle.fetch_journal.specs.declared.error.SharedError.{SharedError}
+use Rattle.fetch_journal.specs.declared.error.SharedError.TheVariants as errors
 
 abbrev IsOf : {X : Type 0} → Option Missing → Result X SharedError → Type 0
 IsOf {X} o r = MatchOption o (IsOkUnless r errors.NoMemory) (λ link. r ≡ Err (errors.NotClosed link))

@@ -2,10 +2,10 @@
 use Rattle.std.specs.Prelude.{◌≡◌, ◌⊎◌, ◌↔◌, ℕ, ◌+◌, ◌<◌, ◌≤◌, List, [], length, map, Option, Some, Result, slice_get}
 use Rattle.std.specs.Option.{option_map}
 use Rattle.fetch_remote.specs.declared.fetching.outcome.Outcome.{Outcome}
-use Rattle.fetch_shared.specs.declared.entry.Entry.{Entry}
-use Rattle.fetch_shared.specs.declared.error.SharedError.{SharedError}
+use Rattle.fetch_journal.specs.declared.entry.Entry.{Entry}
+use Rattle.fetch_journal.specs.declared.error.SharedError.{SharedError}
 use Rattle.fetch_shared.specs.declared.receipt.Receipt.{Receipt}
-use Rattle.fetch_shared.specs.Journals.{Begins, entries_of}
+use Rattle.fetch_journal.specs.Journals.{Begins, entries_of}
 use Rattle.fetch_shared.specs.Numbers.{span, Holds}
 use Rattle.fetch_shared.specs.Passes.{Holder, Which}
 use Rattle.fetch_race.specs.declared.job.Job.{Job}

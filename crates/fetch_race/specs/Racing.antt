@@ -10,16 +10,16 @@ use Rattle.fetch_remote.specs.Errors.{is_unkept, is_unlisted}
 use Rattle.fetch_remote.specs.RepositoryValues.{RepositoryValue}
 use Rattle.fetch_remote.specs.declared.fetching.fetch_error.FetchError.TheVariants as fetch
 use Rattle.fetch_remote.specs.declared.fetching.outcome.Outcome.{Outcome}
-use Rattle.fetch_shared.specs.declared.entry.Entry.{Entry}
-use Rattle.fetch_shared.specs.declared.error.SharedError.{SharedError}
-use Rattle.fetch_shared.specs.declared.error.SharedError.TheVariants as errors
+use Rattle.fetch_journal.specs.declared.entry.Entry.{Entry}
+use Rattle.fetch_journal.specs.declared.error.SharedError.{SharedError}
+use Rattle.fetch_journal.specs.declared.error.SharedError.TheVariants as errors
 use Rattle.fetch_shared.specs.declared.receipt.Receipt.{Receipt}
-use Rattle.fetch_shared.specs.Errors.{is_of_peer, is_yes}
+use Rattle.fetch_journal.specs.Errors.{is_of_peer, is_yes}
 use Rattle.fetch_shared.specs.Fetching.{Call, IsSharedFetch, IsSharedRefused}
-use Rattle.fetch_shared.specs.Journals.{Begins, entries_of}
+use Rattle.fetch_journal.specs.Journals.{Begins, entries_of}
 use Rattle.fetch_shared.specs.Passes.{Holder, IsBack}
 use Rattle.fetch_shared.specs.Receipts.{IsReceipt}
-use Rattle.fetch_shared.specs.Shared.{IsKept}
+use Rattle.fetch_journal.specs.Shared.{IsKept}
 use Rattle.fetch_shared.specs.Conversed.{Line, given_to}
 use Rattle.fetch_shared.specs.Valid.{HasValidInput, is_free}
 use Rattle.fetch_race.specs.declared.job.Job.{Job}

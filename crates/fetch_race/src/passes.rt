@@ -7,11 +7,11 @@ ghost use Rattle.fetch_race.specs.Racing.{IsRaced};
 ghost use Rattle.fetch_race.specs.Rooms.{HasRoom};
 ghost use Rattle.fetch_race.specs.Passes.{AreGathered, AreOver, HavePasses, HaveRaced, HoldsAll, IsJoined, IsOwn, IsRest, HasPass};
 ghost use Rattle.fetch_race.specs.Passes.{answer_in};
-ghost use Rattle.fetch_shared.specs.Journals.{pass_of};
-ghost use Rattle.fetch_shared.specs.Machine.{held};
+ghost use Rattle.fetch_journal.specs.Journals.{pass_of};
+ghost use Rattle.fetch_journal.specs.Machine.{held};
 ghost use Rattle.fetch_shared.specs.Passes.{Holder};
-ghost use Rattle.fetch_shared.specs.Shared.{IsKept};
-ghost use Rattle.fetch_shared.specs.declared.error.SharedError.TheVariants as errors;
+ghost use Rattle.fetch_journal.specs.Shared.{IsKept};
+ghost use Rattle.fetch_journal.specs.declared.error.SharedError.TheVariants as errors;
 
 use crate::job::{Job, JobRun, Raced};
 use crate::racing::race_over;

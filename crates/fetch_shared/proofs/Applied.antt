@@ -39,18 +39,18 @@ use Rattle.fetch_remote.specs.declared.fetching.applying.TakenReply.{TakenReply 
 use Rattle.fetch_remote.proofs.Keeping.{status_is, made_is, made_none, kept_none, removed_is, left_files, removable}
 use Rattle.fetch_remote.proofs.Applied.{judging_told}
 use Rattle.fetch_shared.specs.declared.pack_taken.PackTaken.{PackTaken}
-use Rattle.fetch_shared.specs.declared.entry.Entry.{Entry}
-use Rattle.fetch_shared.specs.declared.entry.Entry.TheVariants as entries
-use Rattle.fetch_shared.specs.declared.error.SharedError.{SharedError}
-use Rattle.fetch_shared.specs.declared.error.SharedError.TheVariants as errors
-use Rattle.fetch_shared.specs.declared.plan.Taken.{Taken}
+use Rattle.fetch_journal.specs.declared.entry.Entry.{Entry}
+use Rattle.fetch_journal.specs.declared.entry.Entry.TheVariants as entries
+use Rattle.fetch_journal.specs.declared.error.SharedError.{SharedError}
+use Rattle.fetch_journal.specs.declared.error.SharedError.TheVariants as errors
+use Rattle.fetch_journal.specs.declared.plan.Taken.{Taken}
 use Rattle.fetch_shared.specs.declared.applying.Stop.{Stop}
 use Rattle.fetch_shared.specs.declared.applying.Verdicts.{Verdicts}
 use Rattle.fetch_shared.specs.PackTaken.{take_entries, HasTakenPack, IsPackUntaken}
-use Rattle.fetch_shared.specs.Errors.{fetching}
-use Rattle.fetch_shared.specs.Journals.{Begins, entries_of}
-use Rattle.fetch_shared.specs.Machine.{held, take_refusal, commit_refusal}
-use Rattle.fetch_shared.specs.Machine.Event.{Take, Commit}
+use Rattle.fetch_journal.specs.Errors.{fetching}
+use Rattle.fetch_journal.specs.Journals.{Begins, entries_of}
+use Rattle.fetch_journal.specs.Machine.{held, take_refusal, commit_refusal}
+use Rattle.fetch_journal.specs.Machine.Event.{Take, Commit}
 use Rattle.fetch_shared.specs.Passes.{Holder, IsBack}
 use Rattle.fetch_shared.specs.Seen.{IsStateAt, IsRefusedAt}
 use Rattle.fetch_shared.specs.Applying.{Matter, Course, course_of, reply_in, keep_in, HasTaken, HasJudged, Commits, commit_entry, IsApplied, IsUntaken, IsUncommitted, IsUnapplied, unremoved, kept_of, policy_by, HasVerdicts, IsStop, Moves, IsUnmoved}

@@ -4,17 +4,17 @@ use mathlib.Core.Logic.{dite}
 use native.Mathlib.Decide.{ℕ_discrete}
 use Rattle.atomic_table.specs.Table.{Me}
 use Rattle.atomic_table.specs.Seated.{TableId}
-use Rattle.fetch_shared.specs.declared.entry.Entry.{Entry}
+use Rattle.fetch_journal.specs.declared.entry.Entry.{Entry}
 use Rattle.fetch_shared.specs.declared.view.Span.{Span}
 use Rattle.fetch_shared.specs.declared.view.View.{View}
 use Rattle.fetch_shared.specs.declared.view.Stage.TheVariants.{Resting}
-use Rattle.fetch_shared.specs.Journals.{Begins, entries_of, pass_of}
+use Rattle.fetch_journal.specs.Journals.{Begins, entries_of, pass_of}
 use Rattle.fetch_shared.specs.Numbers.{times_held, Holds}
 use Rattle.fetch_shared.specs.LockRule.{own_at, own, turning, resting, settled, both_parts, AreJoined}
 use Rattle.fetch_shared.specs.Passes.{Holder, holder_of, IsBack}
-use Rattle.fetch_shared.proofs.Journals.{begins_trans, begins_more, entries_of-other, entries_of-append}
+use Rattle.fetch_journal.proofs.Journals.{begins_trans, begins_more, entries_of-other, entries_of-append}
 use Rattle.fetch_shared.proofs.Held.{times_held-append}
-use Rattle.fetch_shared.specs.Shared.{SharedValue}
+use Rattle.fetch_journal.specs.Shared.{SharedValue}
 
 -- a pass that had the turn, and saw a longer journal
 pub comes_back : (table table' : TableId) (v w : View) (journal : List Entry) → v.stage ≡ Resting → table' ≡ table → w ≡ resting (turning v journal) → Begins v.front journal

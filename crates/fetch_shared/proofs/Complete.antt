@@ -19,15 +19,15 @@ use Rattle.fetch_remote.specs.Applying.{policy_in}
 use Rattle.fetch_remote.specs.Stages.{Told, bound_of, listing_stage, conversation}
 use Rattle.fetch_remote.specs.declared.fetching.fetch_error.FetchError.{FetchError}
 use Rattle.fetch_remote.specs.declared.fetching.fetch_error.FetchError.TheVariants as fetch
-use Rattle.fetch_shared.specs.declared.error.SharedError.{SharedError}
-use Rattle.fetch_shared.specs.declared.error.SharedError.TheVariants as errors
+use Rattle.fetch_journal.specs.declared.error.SharedError.{SharedError}
+use Rattle.fetch_journal.specs.declared.error.SharedError.TheVariants as errors
 use Rattle.fetch_shared.specs.declared.receipt.Receipt.{Receipt}
 use Rattle.fetch_shared.specs.Fetching.{Call, course_in, matter_in, IsUnlisted, IsUnanswered, IsStopped, IsSharedRefused}
 use Rattle.fetch_shared.specs.Seen.{IsStateAt}
 use Rattle.fetch_shared.specs.Applying.{IsUnjudged}
 use Rattle.fetch_shared.specs.Conversed.{Line}
 use Rattle.fetch_shared.specs.Valid.{HasListing, HasReplies, AreJudgeableAt, IsValidFrom, HasValidInput, is_free}
-use Rattle.fetch_shared.proofs.Journals.{begins_trans}
+use Rattle.fetch_journal.proofs.Journals.{begins_trans}
 use Rattle.fetch_shared.proofs.Replied.{listing_free, receiving_free, unjudged_free}
 
 -- ---- one conversation

@@ -9,20 +9,20 @@ use Rattle.fetch_store.specs.Honest.{IsHonest}
 use Rattle.fetch_store.specs.Missing.{missing}
 use Rattle.fetch_store.specs.Stores.{AreOf}
 use Rattle.fetch_remote.specs.RepositoryValues.{RepositoryValue}
-use Rattle.fetch_shared.specs.declared.entry.Entry.{Entry}
-use Rattle.fetch_shared.specs.declared.error.SharedError.TheVariants as errors
+use Rattle.fetch_journal.specs.declared.entry.Entry.{Entry}
+use Rattle.fetch_journal.specs.declared.error.SharedError.TheVariants as errors
 use Rattle.fetch_shared.specs.declared.receipt.Receipt.{Receipt}
 use Rattle.fetch_shared.specs.Disconnected.{planned_in, found_in, refused_pack, request_in}
 use Rattle.fetch_shared.specs.Fetching.{Call, IsStopped}
-use Rattle.fetch_shared.specs.Fronts.{IsAlike, IsStateOf}
-use Rattle.fetch_shared.specs.Journals.{Begins}
-use Rattle.fetch_shared.specs.Machine.{held}
-use Rattle.fetch_shared.specs.Replays.{Outline, outline}
+use Rattle.fetch_journal.specs.Fronts.{IsAlike, IsStateOf}
+use Rattle.fetch_journal.specs.Journals.{Begins}
+use Rattle.fetch_journal.specs.Machine.{held}
+use Rattle.fetch_journal.specs.Replays.{Outline, outline}
 use Rattle.fetch_shared.specs.Conversed.{Line}
-use Rattle.fetch_shared.proofs.Connecting.{connects_later}
-use Rattle.fetch_shared.proofs.Fronts.{fronts_grow}
-use Rattle.fetch_shared.proofs.Refusals.{disconnected}
-use Rattle.fetch_shared.proofs.Replays.{replay_hash}
+use Rattle.fetch_journal.proofs.Connecting.{connects_later}
+use Rattle.fetch_journal.proofs.Fronts.{fronts_grow}
+use Rattle.fetch_journal.proofs.Refusals.{disconnected}
+use Rattle.fetch_journal.proofs.Replays.{replay_hash}
 
 module _ (line : Line) (c : Call) (receipt : Receipt) (link : Missing) (h : IsStopped line c receipt (errors.Disconnected link)) where
   abbrev opening : RepositoryValue

@@ -34,17 +34,17 @@ use Rattle.fetch_remote.proofs.Received.{is_received}
 use Rattle.fetch_remote.proofs.Applied.{judged_is}
 use Rattle.fetch_remote.proofs.Spoken.{said_in, told_spoken, needed_listing, needed_receiving}
 use Rattle.fetch_remote.proofs.Unjudged.{IsOther, receives_no_other}
-use Rattle.fetch_shared.specs.declared.error.SharedError.{SharedError}
-use Rattle.fetch_shared.specs.declared.error.SharedError.TheVariants as errors
+use Rattle.fetch_journal.specs.declared.error.SharedError.{SharedError}
+use Rattle.fetch_journal.specs.declared.error.SharedError.TheVariants as errors
 use Rattle.fetch_shared.specs.declared.receipt.Receipt.{Receipt}
 use Rattle.fetch_shared.specs.declared.exchange.Exchange.{Exchange}
-use Rattle.fetch_shared.specs.Errors.{fetching, keep_fault, tree_fault}
+use Rattle.fetch_journal.specs.Errors.{fetching, keep_fault, tree_fault}
 use Rattle.fetch_shared.specs.Fetching.{Call, own, course_in, matter_in, receipt_of, HasConversed, IsTold, IsSharedFetch, IsStopped, HasSpoken, IsSharedRefused}
-use Rattle.fetch_shared.specs.Journals.{entries_of}
+use Rattle.fetch_journal.specs.Journals.{entries_of}
 use Rattle.fetch_shared.specs.Passes.{Holder, IsBack}
 use Rattle.fetch_shared.specs.Seen.{IsStateAt}
 use Rattle.fetch_shared.specs.Applying.{Matter, Course, course_of, IsApplied, IsUnapplied}
-use Rattle.fetch_shared.specs.Shared.{SharedValue}
+use Rattle.fetch_journal.specs.Shared.{SharedValue}
 use Rattle.fetch_shared.specs.Conversed.{Line, HasConversedOver, HasBroken}
 use Rattle.fetch_shared.proofs.Holds.{received_none, stored_on, holds_mapped}
 use Rattle.fetch_shared.proofs.Saw.{state_later}

@@ -12,15 +12,15 @@ use Rattle.fetch_remote.specs.RepositoryValues.{RepositoryValue}
 use Rattle.fetch_remote.specs.Applying.{to_take, pack_of}
 use Rattle.fetch_remote.specs.Stages.{wants_in}
 use Rattle.fetch_remote.proofs.Wanted.{stored_or_wanted}
-use Rattle.fetch_shared.specs.declared.entry.Entry.{Entry}
-use Rattle.fetch_shared.specs.Fronts.{IsStateOf}
-use Rattle.fetch_shared.specs.Journals.{Begins}
-use Rattle.fetch_shared.specs.Machine.Event.{Take}
-use Rattle.fetch_shared.specs.Machine.{effect}
+use Rattle.fetch_journal.specs.declared.entry.Entry.{Entry}
+use Rattle.fetch_journal.specs.Fronts.{IsStateOf}
+use Rattle.fetch_journal.specs.Journals.{Begins}
+use Rattle.fetch_journal.specs.Machine.Event.{Take}
+use Rattle.fetch_journal.specs.Machine.{effect}
 use Rattle.fetch_shared.specs.Seen.{AllowsTake}
-use Rattle.fetch_shared.specs.Shared.{SharedValue, IsKept, state_of}
-use Rattle.fetch_shared.proofs.Connecting.{wants_left}
-use Rattle.fetch_shared.proofs.Fronts.{stored_later}
+use Rattle.fetch_journal.specs.Shared.{SharedValue, IsKept, state_of}
+use Rattle.fetch_journal.proofs.Connecting.{wants_left}
+use Rattle.fetch_journal.proofs.Fronts.{stored_later}
 
 -- what one state of a journal stores, a later one stores too
 pub stored_on : (opening : RepositoryValue) (v w : SharedValue) (id : ObjectId) → v.opening ≡ opening → w.opening ≡ opening → IsKept v → IsKept w → Begins v.journal w.journal

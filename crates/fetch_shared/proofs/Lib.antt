@@ -1,13 +1,3 @@
-pub mod Runs
-pub mod Refusals
-pub mod Connecting
-pub mod Replays
-pub mod Fronts
-pub mod Deleted
-pub mod Playing
-pub mod Unmet
-pub mod Effects
-pub mod Journals
 pub mod Held
 pub mod Views
 pub mod TurnSteps

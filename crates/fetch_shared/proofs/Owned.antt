@@ -16,12 +16,12 @@ use Rattle.fetch_remote.specs.Applying.{to_take, pack_of}
 use Rattle.fetch_remote.specs.declared.fetching.fetch_error.FetchError.{FetchError}
 use Rattle.fetch_remote.specs.declared.fetching.fetch_error.FetchError.TheVariants as fetch
 use Rattle.fetch_remote.proofs.Blamed.{tells_no_keep, tells_no_trees}
-use Rattle.fetch_shared.specs.declared.error.SharedError.{SharedError}
-use Rattle.fetch_shared.specs.declared.error.SharedError.TheVariants as errors
+use Rattle.fetch_journal.specs.declared.error.SharedError.{SharedError}
+use Rattle.fetch_journal.specs.declared.error.SharedError.TheVariants as errors
 use Rattle.fetch_shared.specs.PackTaken.{IsPackUntaken}
-use Rattle.fetch_shared.specs.Errors.{fetching, is_of_peer, is_yes, keep_fault, tree_fault, tree_fault_deleting}
-use Rattle.fetch_shared.specs.Machine.{held}
-use Rattle.fetch_shared.specs.Machine.Event.{Take, Commit}
+use Rattle.fetch_journal.specs.Errors.{fetching, is_of_peer, is_yes, keep_fault, tree_fault, tree_fault_deleting}
+use Rattle.fetch_journal.specs.Machine.{held}
+use Rattle.fetch_journal.specs.Machine.Event.{Take, Commit}
 use Rattle.fetch_shared.specs.Passes.{Holder}
 use Rattle.fetch_shared.specs.Seen.{IsRefusedAt}
 use Rattle.fetch_shared.specs.Applying.{Matter, Course, IsUnapplied, IsUnmoved, IsOfJudging, is_early, unmade, unremoved}

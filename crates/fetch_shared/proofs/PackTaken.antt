@@ -6,15 +6,15 @@ use Rattle.fetch_conversation.specs.declared.conversing.Received.{Received}
 use Rattle.fetch_conversation.specs.declared.negotiate.Negotiate.{Negotiate}
 use Rattle.fetch_remote.specs.Applying.{to_take, pack_of}
 use Rattle.fetch_shared.specs.declared.pack_taken.PackTaken.{PackTaken}
-use Rattle.fetch_shared.specs.declared.error.SharedError.{SharedError}
-use Rattle.fetch_shared.specs.declared.error.SharedError.TheVariants as errors
-use Rattle.fetch_shared.specs.declared.plan.Taken.{Taken}
+use Rattle.fetch_journal.specs.declared.error.SharedError.{SharedError}
+use Rattle.fetch_journal.specs.declared.error.SharedError.TheVariants as errors
+use Rattle.fetch_journal.specs.declared.plan.Taken.{Taken}
 use Rattle.fetch_shared.specs.PackTaken.{take_entries, HasLooked, HasTakenPack, IsPackUntaken}
-use Rattle.fetch_shared.specs.Journals.{entries_of}
-use Rattle.fetch_shared.specs.Machine.Event.{Take, Snapshot}
+use Rattle.fetch_journal.specs.Journals.{entries_of}
+use Rattle.fetch_journal.specs.Machine.Event.{Take, Snapshot}
 use Rattle.fetch_shared.specs.Passes.{Holder, IsBack, IsTurn}
 use Rattle.fetch_shared.specs.Seen.{IsRefusedAt}
-use Rattle.fetch_shared.specs.Shared.{done, snapshot_of}
+use Rattle.fetch_journal.specs.Shared.{done, snapshot_of}
 use Rattle.fetch_shared.proofs.Saw.{saw, refuses}
 
 pub has_looked : (before after : Holder) (negotiate : Option Negotiate) (taken : Taken) → IsBack before after → IsTurn before after Snapshot snapshot_of (Ok taken) → entries_of before.number after.front ≡ entries_of before.number before.front

@@ -5,9 +5,9 @@ use Rattle.fetch_conversation.specs.declared.fetch.Error.TheVariants as receive
 use Rattle.fetch_remote.specs.Form.{Given}
 use Rattle.fetch_remote.specs.declared.fetching.fetch_error.FetchError.TheVariants as fetch
 use Rattle.fetch_remote.specs.declared.fetching.outcome.Outcome.{Outcome}
-use Rattle.fetch_shared.specs.declared.entry.Entry.{Entry}
-use Rattle.fetch_shared.specs.declared.error.SharedError.{SharedError}
-use Rattle.fetch_shared.specs.declared.error.SharedError.TheVariants as errors
+use Rattle.fetch_journal.specs.declared.entry.Entry.{Entry}
+use Rattle.fetch_journal.specs.declared.error.SharedError.{SharedError}
+use Rattle.fetch_journal.specs.declared.error.SharedError.TheVariants as errors
 use Rattle.fetch_shared.specs.declared.exchange.Exchange.{Exchange}
 use Rattle.fetch_remote.specs.RepositoryValues.{RepositoryValue}
 use Rattle.fetch_shared.specs.Fetching.{receipt_of}
@@ -15,9 +15,9 @@ use Rattle.fetch_shared.specs.Passes.{Holder, IsBack}
 use Rattle.fetch_shared.specs.Receipts.{IsReceipt}
 use Rattle.fetch_shared.specs.Seen.{IsStateAt}
 use Rattle.fetch_shared.specs.Applying.{Matter, Course, HasTaken, Commits, IsApplied, ForgotEarly, ForgotMaking, ForgotLate, IsUnapplied}
-use Rattle.fetch_shared.specs.Shared.{SharedValue}
+use Rattle.fetch_journal.specs.Shared.{SharedValue}
 use Rattle.fetch_shared.specs.Conversed.{Line, HasConversedOver, HasBroken}
-use Rattle.fetch_shared.proofs.Journals.{begins_length}
+use Rattle.fetch_journal.proofs.Journals.{begins_length}
 
 -- so many entries lie between two fronts
 abbrev Between : List Entry → List Entry → ℕ → Type 0

@@ -15,7 +15,7 @@ use Rattle.fetch_remote.specs.declared.fetching.fetch_error.FetchError.{FetchErr
 use Rattle.fetch_remote.specs.declared.fetching.fetch_error.FetchError.TheVariants as fetch
 use Rattle.fetch_remote.proofs.Broken.{free_listing, whole_receiving}
 use Rattle.fetch_remote.proofs.Complete.{judges_it}
-use Rattle.fetch_shared.specs.declared.error.SharedError.TheVariants as errors
+use Rattle.fetch_journal.specs.declared.error.SharedError.TheVariants as errors
 use Rattle.fetch_shared.specs.declared.receipt.Receipt.{Receipt}
 use Rattle.fetch_shared.specs.Fetching.{Call, IsUnlisted, IsUnanswered, IsStopped}
 use Rattle.fetch_shared.specs.Applying.{Matter, Course, IsUnjudged}

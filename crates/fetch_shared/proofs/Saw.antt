@@ -7,18 +7,18 @@ use Rattle.fetch_conversation.specs.declared.conversing.Received.{Received}
 use Rattle.fetch_specs.specs.declared.tags.Tags.{Tags}
 use Rattle.fetch_lines.specs.declared.listings.mapping.RefMap.{RefMap}
 use Rattle.fetch_remote.specs.RepositoryValues.{RepositoryValue}
-use Rattle.fetch_shared.specs.declared.entry.Entry.{Entry}
-use Rattle.fetch_shared.specs.declared.error.SharedError.{SharedError}
-use Rattle.fetch_shared.specs.declared.error.SharedError.TheVariants as errors
-use Rattle.fetch_shared.specs.declared.plan.Plan.{Plan}
-use Rattle.fetch_shared.specs.Journals.{Begins}
-use Rattle.fetch_shared.specs.Machine.{Event, refusal}
-use Rattle.fetch_shared.specs.Machine.Event.{Plan as Planning}
+use Rattle.fetch_journal.specs.declared.entry.Entry.{Entry}
+use Rattle.fetch_journal.specs.declared.error.SharedError.{SharedError}
+use Rattle.fetch_journal.specs.declared.error.SharedError.TheVariants as errors
+use Rattle.fetch_journal.specs.declared.plan.Plan.{Plan}
+use Rattle.fetch_journal.specs.Journals.{Begins}
+use Rattle.fetch_journal.specs.Machine.{Event, refusal}
+use Rattle.fetch_journal.specs.Machine.Event.{Plan as Planning}
 use Rattle.fetch_shared.specs.Passes.{Holder, IsBack, IsTurn}
 use Rattle.fetch_shared.specs.Seen.{IsStateAt, IsRefusedAt, AllowsTake}
-use Rattle.fetch_shared.specs.Shared.{SharedValue, done, plan_of, state_of, is_memory}
+use Rattle.fetch_journal.specs.Shared.{SharedValue, done, plan_of, state_of, is_memory}
 use Rattle.fetch_shared.specs.Conversed.{HasPlanned}
-use Rattle.fetch_shared.proofs.Journals.{begins_self, begins_trans}
+use Rattle.fetch_journal.proofs.Journals.{begins_self, begins_trans}
 
 -- why an event was refused
 refused_by : (X : Type 0) (cause : Option SharedError) (e : SharedError) → RefusesUnless {X = X} is_memory cause (Err e) → (e ≡ errors.NoMemory) ⊎ (cause ≡ Some e)

@@ -8,19 +8,19 @@ use lib.ListN.{get_elem?}
 use lib.Seq.{set-get_or}
 use Rattle.atomic_table.specs.Table.{step, Act, keeps, Valid, carried_after, stepped, Allows, Splits, Joins}
 use Rattle.atomic_table.proofs.Lists.{at_snoc, at_longer, set_else}
-use Rattle.fetch_shared.specs.declared.entry.Entry.{Entry}
+use Rattle.fetch_journal.specs.declared.entry.Entry.{Entry}
 use Rattle.fetch_shared.specs.declared.view.Span.{Span}
 use Rattle.fetch_shared.specs.declared.view.View.{View}
 use Rattle.fetch_shared.specs.declared.view.Stage.{Stage}
 use Rattle.fetch_shared.specs.declared.view.Stage.TheVariants.{Resting, Joined}
-use Rattle.fetch_shared.specs.Journals.{Begins, entries_of}
+use Rattle.fetch_journal.specs.Journals.{Begins, entries_of}
 use Rattle.fetch_shared.specs.Numbers.{times_in, times_held, Holds}
 use Rattle.fetch_shared.specs.LockRule.{own_at, own, joined_at, held_by, Sees, AtStage, IsLive, Knows, IsClear, Learns, Extends, settled, AreJoined, Settles, left_part, right_part, both_parts, spent}
-use Rattle.fetch_shared.proofs.Journals.{begins_self, begins_shorter, begins_none, entries_between}
+use Rattle.fetch_journal.proofs.Journals.{begins_self, begins_shorter, begins_none, entries_between}
 use Rattle.fetch_shared.proofs.Held.{times_in-cut, times_over-append, times_held-append, times_over-set, one_of}
 use Rattle.fetch_shared.proofs.Views.{St, Seated, Rule, seats_stay, once, turn_stays, knows_at, changes, unchanged}
 use Rattle.fetch_remote.specs.RepositoryValues.{RepositoryValue}
-use Rattle.fetch_shared.specs.Shared.{SharedValue}
+use Rattle.fetch_journal.specs.Shared.{SharedValue}
 
 module _ (start : RepositoryValue) where
   -- what the rule knows of a view by itself, told without a change

@@ -18,12 +18,12 @@ use Rattle.fetch_remote.specs.Stages.{bound_of, wants_in, terms_in, listing_stag
 use Rattle.fetch_remote.specs.Repositories.{State}
 use Rattle.fetch_remote.specs.Conversed.{HasTold}
 use Rattle.fetch_remote.proofs.Received.{is_received}
-use Rattle.fetch_shared.specs.declared.error.SharedError.{SharedError}
-use Rattle.fetch_shared.specs.declared.error.SharedError.TheVariants as errors
-use Rattle.fetch_shared.specs.Errors.{fetching}
+use Rattle.fetch_journal.specs.declared.error.SharedError.{SharedError}
+use Rattle.fetch_journal.specs.declared.error.SharedError.TheVariants as errors
+use Rattle.fetch_journal.specs.Errors.{fetching}
 use Rattle.fetch_shared.specs.Passes.{Holder}
 use Rattle.fetch_shared.specs.Seen.{IsStateAt}
-use Rattle.fetch_shared.specs.Shared.{SharedValue}
+use Rattle.fetch_journal.specs.Shared.{SharedValue}
 use Rattle.fetch_shared.specs.Conversed.{Line, HasConversedOver, HasBroken}
 use Rattle.fetch_shared.proofs.Named.{IsNamed, named_received}
 

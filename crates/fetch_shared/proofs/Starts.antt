@@ -6,10 +6,10 @@ use Rattle.atomic_table.specs.Table as table
 use Rattle.fetch_remote.specs.RepositoryValues.{RepositoryValue}
 use Rattle.fetch_shared.specs.declared.view.View.{View}
 use Rattle.fetch_shared.specs.Numbers.{span, Holds}
-use Rattle.fetch_shared.specs.Shared.{SharedValue}
+use Rattle.fetch_journal.specs.Shared.{SharedValue}
 use Rattle.fetch_shared.specs.LockRule.{own, Knows, IsOrdered, newcomer}
 use Rattle.fetch_shared.proofs.Held.{times_in-first, times_in-yes}
-use Rattle.fetch_shared.proofs.Journals.{begins_self}
+use Rattle.fetch_journal.proofs.Journals.{begins_self}
 
 module _ (start : RepositoryValue) where
   knows_first : (seat : ℕ) → Knows start [] 0 0 seat (newcomer start)

@@ -16,9 +16,9 @@ use Rattle.fetch_remote.specs.declared.delete.Error.{Error as DeleteError}
 use Rattle.fetch_remote.specs.declared.delete.Error.TheVariants as delete
 use Rattle.fetch_remote.proofs.Asked.{listing_yes, receiving_yes}
 use Rattle.fetch_remote.proofs.Blamed.{as_prepared, as_received}
-use Rattle.fetch_shared.specs.declared.error.SharedError.{SharedError}
-use Rattle.fetch_shared.specs.declared.error.SharedError.TheVariants as errors
-use Rattle.fetch_shared.specs.Errors.{fetching, deleting, is_of_peer, is_yes, keep_fault, tree_fault, tree_fault_deleting}
+use Rattle.fetch_journal.specs.declared.error.SharedError.{SharedError}
+use Rattle.fetch_journal.specs.declared.error.SharedError.TheVariants as errors
+use Rattle.fetch_journal.specs.Errors.{fetching, deleting, is_of_peer, is_yes, keep_fault, tree_fault, tree_fault_deleting}
 
 -- ---- a refusal is told as one alone
 

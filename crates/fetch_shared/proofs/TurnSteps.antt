@@ -10,19 +10,19 @@ use lib.ListN.{get_elem?}
 use lib.Seq.{set-get_or}
 use prog.Atomic.{either}
 use Rattle.atomic_table.specs.Table.{step, keeps, takes, gives, put_back, rest, stepped, Allows}
-use Rattle.fetch_shared.specs.declared.entry.Entry.{Entry}
+use Rattle.fetch_journal.specs.declared.entry.Entry.{Entry}
 use Rattle.fetch_shared.specs.declared.view.Span.{Span}
 use Rattle.fetch_shared.specs.declared.view.View.{View}
 use Rattle.fetch_shared.specs.declared.view.Stage.{Stage}
 use Rattle.fetch_shared.specs.declared.view.Stage.TheVariants.{Resting, Turn}
-use Rattle.fetch_shared.specs.Journals.{Begins, entries_of, pass_of}
+use Rattle.fetch_journal.specs.Journals.{Begins, entries_of, pass_of}
 use Rattle.fetch_shared.specs.Numbers.{span, times_in, times_held, Holds}
 use Rattle.fetch_shared.specs.LockRule.{own_at, own, joined_at, held_by, NUMBERS, AtStage, IsLive, turning, resting, Tries, Finds, Loads, Records, Releases}
-use Rattle.fetch_shared.proofs.Journals.{begins_self, entries_of-other, all_one}
+use Rattle.fetch_journal.proofs.Journals.{begins_self, entries_of-other, all_one}
 use Rattle.fetch_shared.proofs.Held.{times_in-here, in_range, times_held-append, one_of, two_of}
 use Rattle.fetch_shared.proofs.Views.{St, Seated, Rule, Homes, turn_moves, journal_grows, once, turn_is, knows_at, changes, unchanged}
 use Rattle.fetch_remote.specs.RepositoryValues.{RepositoryValue}
-use Rattle.fetch_shared.specs.Shared.{SharedValue}
+use Rattle.fetch_journal.specs.Shared.{SharedValue}
 
 module _ (start : RepositoryValue) where
   pub tries : (slots id : ℕ) (me : Seated) → me.0.stage ≡ Resting → Allows (Rule start) slots id me 0 (λ n. either (n == 0) 1 n) (Tries (step slots 0 0 1 none) me)

@@ -3,15 +3,15 @@ use Rattle.std.proofs.Common.{◌≡◌, ℕ, [], ◌∷◌, ◌++◌, length, N
 use Rattle.std.specs.Prelude.{Result, Ok, Err, IfErr, IfOk, slice_get}
 use Rattle.atomic_table.specs.Seated.{TableId}
 use Rattle.fetch_base.specs.Answers.{RefusesUnless}
-use Rattle.fetch_shared.specs.declared.entry.Entry.{Entry}
-use Rattle.fetch_shared.specs.declared.error.SharedError.{SharedError}
-use Rattle.fetch_shared.specs.declared.error.SharedError.TheVariants as errors
+use Rattle.fetch_journal.specs.declared.entry.Entry.{Entry}
+use Rattle.fetch_journal.specs.declared.error.SharedError.{SharedError}
+use Rattle.fetch_journal.specs.declared.error.SharedError.TheVariants as errors
 use Rattle.fetch_shared.specs.declared.view.View.{View}
 use Rattle.fetch_shared.specs.declared.view.Stage.TheVariants.{Resting}
-use Rattle.fetch_shared.specs.Journals.{entries_of, pass_of}
-use Rattle.fetch_shared.specs.Machine.{Event, refusal}
+use Rattle.fetch_journal.specs.Journals.{entries_of, pass_of}
+use Rattle.fetch_journal.specs.Machine.{Event, refusal}
 use Rattle.fetch_shared.specs.Numbers.{Holds}
-use Rattle.fetch_shared.specs.Shared.{SharedValue, is_memory, IsKept, done, state_of}
+use Rattle.fetch_journal.specs.Shared.{SharedValue, is_memory, IsKept, done, state_of}
 use Rattle.fetch_shared.specs.LockRule.{own, turning, resting, Finds}
 use Rattle.fetch_shared.proofs.Held.{holds_own}
 use Rattle.fetch_shared.specs.Passes.{Holder, holder_of, IsBack, IsFoundBy, IsTurn}

@@ -6,18 +6,18 @@ use lib.ListN.{get_elem?}
 use lib.Seq.{set-get_or}
 use Rattle.atomic_table.specs.Table.{State, Me, keeps, stepped}
 use Rattle.atomic_table.proofs.Lists.{at_set, set_here, set_else, set_again}
-use Rattle.fetch_shared.specs.declared.entry.Entry.{Entry}
+use Rattle.fetch_journal.specs.declared.entry.Entry.{Entry}
 use Rattle.fetch_shared.specs.declared.view.Span.{Span}
 use Rattle.fetch_shared.specs.declared.view.View.{View}
 use Rattle.fetch_shared.specs.declared.view.Stage.{Stage}
 use Rattle.fetch_shared.specs.declared.view.Stage.TheVariants.{Resting, Turn, Joined, Spent}
-use Rattle.fetch_shared.specs.Journals.{pass_of}
+use Rattle.fetch_journal.specs.Journals.{pass_of}
 use Rattle.fetch_shared.specs.Numbers.{times_in, times_held, Holds}
 use Rattle.fetch_shared.specs.LockRule.{own, joined_at, held_by, times_over, NUMBERS, Sees, AtStage, IsLive, Knows, HasTurn, Stands, IsOrdered}
-use Rattle.fetch_shared.proofs.Journals.{begins_more, entries_of-other}
+use Rattle.fetch_journal.proofs.Journals.{begins_more, entries_of-other}
 use Rattle.fetch_shared.proofs.Held.{times_in-le, times_held-append, times_over-set}
 use Rattle.fetch_remote.specs.RepositoryValues.{RepositoryValue}
-use Rattle.fetch_shared.specs.Shared.{SharedValue}
+use Rattle.fetch_journal.specs.Shared.{SharedValue}
 
 abbrev pub St : Type 0
 St = State (Option SharedValue) View

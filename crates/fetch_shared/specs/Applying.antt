@@ -32,18 +32,18 @@ use Rattle.fetch_remote.specs.declared.fetching.outcome.Outcome.{Outcome}
 use Rattle.fetch_remote.specs.declared.fetching.applying.ApplyOptions.{ApplyOptions}
 use Rattle.fetch_remote.specs.declared.fetching.applying.TakenReply.{TakenReply}
 use Rattle.fetch_shared.specs.declared.pack_taken.PackTaken.{PackTaken}
-use Rattle.fetch_shared.specs.declared.entry.Entry.{Entry}
-use Rattle.fetch_shared.specs.declared.entry.Entry.TheVariants as entries
-use Rattle.fetch_shared.specs.declared.error.SharedError.{SharedError}
-use Rattle.fetch_shared.specs.declared.error.SharedError.TheVariants as errors
+use Rattle.fetch_journal.specs.declared.entry.Entry.{Entry}
+use Rattle.fetch_journal.specs.declared.entry.Entry.TheVariants as entries
+use Rattle.fetch_journal.specs.declared.error.SharedError.{SharedError}
+use Rattle.fetch_journal.specs.declared.error.SharedError.TheVariants as errors
 use Rattle.fetch_shared.specs.declared.applying.Stop.{Stop}
 use Rattle.fetch_shared.specs.declared.applying.Verdicts.{Verdicts}
 use Rattle.fetch_shared.specs.PackTaken.{take_entries}
-use Rattle.fetch_shared.specs.Journals.{entries_of}
-use Rattle.fetch_shared.specs.Machine.Event.{Take, Commit}
+use Rattle.fetch_journal.specs.Journals.{entries_of}
+use Rattle.fetch_journal.specs.Machine.Event.{Take, Commit}
 use Rattle.fetch_shared.specs.Passes.{Holder}
 use Rattle.fetch_shared.specs.Seen.{IsStateAt, IsRefusedAt, AllowsTake}
-use Rattle.fetch_shared.specs.Shared.{SharedValue}
+use Rattle.fetch_journal.specs.Shared.{SharedValue}
 
 -- what is applied: with which setup, by which options, what was wanted, and what was told
 pub record Matter : Type 0 where

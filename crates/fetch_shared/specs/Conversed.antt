@@ -9,14 +9,14 @@ use Rattle.fetch_remote.specs.Stages.{bound_of, wants_in, listing_stage}
 use Rattle.fetch_remote.specs.Conversed.{HasTold, BreaksListing, BreaksReceiving}
 use Rattle.fetch_remote.specs.declared.fetching.fetch_error.FetchError.{FetchError}
 use Rattle.fetch_remote.specs.declared.fetching.options.FetchOptions.{FetchOptions}
-use Rattle.fetch_shared.specs.declared.error.SharedError.{SharedError}
-use Rattle.fetch_shared.specs.declared.error.SharedError.TheVariants as errors
-use Rattle.fetch_shared.specs.declared.plan.Plan.{Plan}
+use Rattle.fetch_journal.specs.declared.error.SharedError.{SharedError}
+use Rattle.fetch_journal.specs.declared.error.SharedError.TheVariants as errors
+use Rattle.fetch_journal.specs.declared.plan.Plan.{Plan}
 use Rattle.fetch_shared.specs.declared.exchange.Exchange.{Exchange}
-use Rattle.fetch_shared.specs.Errors.{fetching}
+use Rattle.fetch_journal.specs.Errors.{fetching}
 use Rattle.fetch_shared.specs.Passes.{Holder}
 use Rattle.fetch_shared.specs.Seen.{IsStateAt}
-use Rattle.fetch_shared.specs.Shared.{SharedValue}
+use Rattle.fetch_journal.specs.Shared.{SharedValue}
 
 -- what a fetch is given: the remote, the options, and the setup that the shared repository opened with
 abbrev pub given_to : RemoteValue → FetchOptions → Holder → Given

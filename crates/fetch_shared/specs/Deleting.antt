@@ -5,12 +5,12 @@ use Rattle.fetch_remote.specs.Deleting.{AreFree}
 use Rattle.fetch_remote.specs.Undeletable.{IsUndeletable}
 use Rattle.fetch_remote.specs.declared.delete.Error.TheVariants as causes
 use Rattle.fetch_update.specs.declared.worktrees.Worktree.{Worktree}
-use Rattle.fetch_shared.specs.declared.entry.Entry.TheVariants as entries
-use Rattle.fetch_shared.specs.declared.error.SharedError.{SharedError}
-use Rattle.fetch_shared.specs.declared.error.SharedError.TheVariants as errors
+use Rattle.fetch_journal.specs.declared.entry.Entry.TheVariants as entries
+use Rattle.fetch_journal.specs.declared.error.SharedError.{SharedError}
+use Rattle.fetch_journal.specs.declared.error.SharedError.TheVariants as errors
 use Rattle.fetch_shared.specs.declared.receipt.Receipt.{Receipt}
-use Rattle.fetch_shared.specs.Journals.{entries_of}
-use Rattle.fetch_shared.specs.Machine.Event.{Delete}
+use Rattle.fetch_journal.specs.Journals.{entries_of}
+use Rattle.fetch_journal.specs.Machine.Event.{Delete}
 use Rattle.fetch_shared.specs.Passes.{Holder, IsTurn}
 use Rattle.fetch_shared.specs.Receipts.{IsReceipt}
 

@@ -6,10 +6,10 @@ use Rattle.fetch_store.specs.Honest.{Pack, Request}
 use Rattle.fetch_remote.specs.RepositoryValues.{RepositoryValue}
 use Rattle.fetch_remote.specs.Applying.{pack_of}
 use Rattle.fetch_remote.specs.Stages.{wants_in}
-use Rattle.fetch_shared.specs.declared.error.SharedError.TheVariants.{Disconnected}
+use Rattle.fetch_journal.specs.declared.error.SharedError.TheVariants.{Disconnected}
 use Rattle.fetch_shared.specs.declared.receipt.Receipt.{Receipt}
 use Rattle.fetch_shared.specs.Fetching.{Call, IsStopped}
-use Rattle.fetch_shared.specs.Machine.{held}
+use Rattle.fetch_journal.specs.Machine.{held}
 use Rattle.fetch_shared.specs.Conversed.{Line}
 
 -- the repository at `planned`

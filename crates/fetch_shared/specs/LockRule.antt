@@ -5,16 +5,16 @@ use mathlib.Core.Option.{some, none}
 use mathlib.Core.Option as maybe
 use lib.ListN.{get_elem?}
 use Rattle.atomic_table.specs.Table.{State, Me, Step}
-use Rattle.fetch_shared.specs.declared.entry.Entry.{Entry}
+use Rattle.fetch_journal.specs.declared.entry.Entry.{Entry}
 use Rattle.fetch_shared.specs.declared.view.Span.{Span}
 use Rattle.fetch_shared.specs.declared.view.View.{View}
 use Rattle.fetch_shared.specs.declared.view.Stage.{Stage}
 use Rattle.fetch_shared.specs.declared.view.Stage.TheVariants.{Resting, Turn, Joined, Spent}
-use Rattle.fetch_shared.specs.Journals.{Begins, entries_of, pass_of}
+use Rattle.fetch_journal.specs.Journals.{Begins, entries_of, pass_of}
 use Rattle.fetch_shared.specs.Nothing.{nothing}
 use Rattle.fetch_shared.specs.Numbers.{span, times_in, times_held, Holds}
 use Rattle.fetch_remote.specs.RepositoryValues.{RepositoryValue}
-use Rattle.fetch_shared.specs.Shared.{SharedValue}
+use Rattle.fetch_journal.specs.Shared.{SharedValue}
 
 -- the numbers that a view at this stage holds of its own: its number, its unused ones, and those of passes that it took in
 abbrev pub own_at : View → Stage → List Span

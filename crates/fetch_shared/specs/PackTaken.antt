@@ -6,15 +6,15 @@ use Rattle.fetch_conversation.specs.declared.conversing.Received.{Received}
 use Rattle.fetch_conversation.specs.declared.negotiate.Negotiate.{Negotiate}
 use Rattle.fetch_remote.specs.Applying.{to_take, pack_of, pack_read}
 use Rattle.fetch_shared.specs.declared.pack_taken.PackTaken.{PackTaken}
-use Rattle.fetch_shared.specs.declared.entry.Entry.{Entry}
-use Rattle.fetch_shared.specs.declared.entry.Entry.TheVariants as entries
-use Rattle.fetch_shared.specs.declared.error.SharedError.{SharedError}
-use Rattle.fetch_shared.specs.declared.error.SharedError.TheVariants as errors
-use Rattle.fetch_shared.specs.Journals.{entries_of}
-use Rattle.fetch_shared.specs.Machine.Event.{Take}
+use Rattle.fetch_journal.specs.declared.entry.Entry.{Entry}
+use Rattle.fetch_journal.specs.declared.entry.Entry.TheVariants as entries
+use Rattle.fetch_journal.specs.declared.error.SharedError.{SharedError}
+use Rattle.fetch_journal.specs.declared.error.SharedError.TheVariants as errors
+use Rattle.fetch_journal.specs.Journals.{entries_of}
+use Rattle.fetch_journal.specs.Machine.Event.{Take}
 use Rattle.fetch_shared.specs.Passes.{Holder}
 use Rattle.fetch_shared.specs.Seen.{IsStateAt, IsRefusedAt, AllowsTake}
-use Rattle.fetch_shared.specs.Shared.{SharedValue, snapshot_of}
+use Rattle.fetch_journal.specs.Shared.{SharedValue, snapshot_of}
 
 -- the entry of a take, where something is to be taken
 abbrev pub take_entries : ℕ → Option Received → List Entry

@@ -4,9 +4,9 @@ use Rattle.std.specs.Coded.{Coded, code_by, coded_ℕ, coded_list, coded×}
 use Rattle.atomic_table.specs.Seated.{TableId, table_id_coded}
 use Rattle.fetch_remote.specs.Codes.{coded_repository}
 use Rattle.fetch_remote.specs.RepositoryValues.{RepositoryValue}
-use Rattle.fetch_shared.specs.declared.entry.Entry.{Entry}
+use Rattle.fetch_journal.specs.declared.entry.Entry.{Entry}
 use Rattle.fetch_shared.specs.declared.view.Span.{Span}
-use Rattle.fetch_shared.specs.Codes.{coded_entry}
+use Rattle.fetch_journal.specs.Codes.{coded_entry}
 use Rattle.fetch_shared.specs.Passes.{Which, Holder}
 
 abbrev coded_span : Coded Span

@@ -3,18 +3,18 @@ use Rattle.std.specs.Prelude.{◌≡◌, ◌≢◌, ℕ, ◌≤◌, List, [], Op
 use Rattle.atomic_table.specs.Seated.{TableId}
 use Rattle.atomic_table.specs.Table.{Me}
 use Rattle.fetch_base.specs.Answers.{RefusesUnless}
-use Rattle.fetch_shared.specs.declared.entry.Entry.{Entry}
+use Rattle.fetch_journal.specs.declared.entry.Entry.{Entry}
 use Rattle.fetch_shared.specs.declared.view.Span.{Span}
 use Rattle.fetch_shared.specs.declared.view.View.{View}
 use Rattle.fetch_shared.specs.declared.view.Stage.TheVariants.{Resting}
-use Rattle.fetch_shared.specs.Journals.{Begins, entries_of}
+use Rattle.fetch_journal.specs.Journals.{Begins, entries_of}
 use Rattle.fetch_shared.specs.Numbers.{Holds}
 use Rattle.fetch_shared.specs.LockRule.{own}
 use Rattle.fetch_conversation.specs.declared.settings.Settings.{Settings}
 use Rattle.fetch_remote.specs.RepositoryValues.{RepositoryValue}
-use Rattle.fetch_shared.specs.Shared.{SharedValue, IsKept, done, state_of, is_memory}
-use Rattle.fetch_shared.specs.declared.error.SharedError.{SharedError}
-use Rattle.fetch_shared.specs.Machine.{Event, refusal}
+use Rattle.fetch_journal.specs.Shared.{SharedValue, IsKept, done, state_of, is_memory}
+use Rattle.fetch_journal.specs.declared.error.SharedError.{SharedError}
+use Rattle.fetch_journal.specs.Machine.{Event, refusal}
 
 -- which shared repository it is, and what it opened as
 pub record Which : Type 0 where

@@ -4,12 +4,12 @@ use Rattle.fetch_base.specs.declared.id.ObjectId.{ObjectId}
 use Rattle.fetch_conversation.specs.declared.conversing.Received.{Received}
 use Rattle.fetch_remote.specs.Applying.{pack_of}
 use Rattle.fetch_remote.specs.RepositoryValues.{RepositoryValue}
-use Rattle.fetch_shared.specs.declared.entry.Entry.{Entry}
-use Rattle.fetch_shared.specs.declared.error.SharedError.{SharedError}
-use Rattle.fetch_shared.specs.Journals.{Begins}
-use Rattle.fetch_shared.specs.Machine.{Event, IsAllowed, refusal}
-use Rattle.fetch_shared.specs.Machine.Event.{Take}
-use Rattle.fetch_shared.specs.Shared.{SharedValue, IsKept, done, state_of}
+use Rattle.fetch_journal.specs.declared.entry.Entry.{Entry}
+use Rattle.fetch_journal.specs.declared.error.SharedError.{SharedError}
+use Rattle.fetch_journal.specs.Journals.{Begins}
+use Rattle.fetch_journal.specs.Machine.{Event, IsAllowed, refusal}
+use Rattle.fetch_journal.specs.Machine.Event.{Take}
+use Rattle.fetch_journal.specs.Shared.{SharedValue, IsKept, done, state_of}
 
 -- The state that the first `count` entries of a front leave: it is kept, and these are its journal, which goes on from an
 -- earlier one.

@@ -3,17 +3,16 @@
 ghost use Rattle.std.specs.Prelude.{◌≡◌, [], ◌∷◌, ◌++◌, IfOk, OnOk, OnErr, Some, length, map, slice_get};
 ghost use Rattle.fetch_store.specs.Stores.{AreOf};
 ghost use Rattle.fetch_pack.specs.Once.{AreNamed};
-ghost use Rattle.fetch_shared.specs.Journals.{entries_of};
-ghost use Rattle.fetch_shared.specs.Machine.Event.{Plan as Planning, Snapshot, Take, Commit, Delete};
+ghost use Rattle.fetch_journal.specs.Journals.{entries_of};
+ghost use Rattle.fetch_journal.specs.Machine.Event.{Plan as Planning, Snapshot, Take, Commit, Delete};
 ghost use Rattle.fetch_shared.specs.Passes.{IsBack, IsTurn};
 ghost use Rattle.fetch_shared.specs.Received.{pack_in};
-ghost use Rattle.fetch_shared.specs.declared.entry.Entry.TheVariants as entries;
-ghost use Rattle.fetch_shared.specs.Shared.{done, plan_of, snapshot_of};
+ghost use Rattle.fetch_journal.specs.declared.entry.Entry.TheVariants as entries;
+ghost use Rattle.fetch_journal.specs.Shared.{done, plan_of, snapshot_of};
 
-use crate::error::SharedError;
 use crate::pass::Pass;
-use crate::plan::{Plan, Taken};
 use crate::shared::SharedRepository;
+use fetch_journal::{Plan, SharedError, Taken};
 use fetch_negotiate::Shallow;
 use fetch_refs::{RefEdit, Signature};
 use fetch_specs::{FullName, Tags};

@@ -4,7 +4,7 @@ ghost use Rattle.std.specs.Prelude.{◌≡◌, true, None, Some, IfOk, IfErr, Ma
 ghost use Rattle.fetch_conversation.specs.Blame.{BlamesPeer, BlamesInterrupt, is_told};
 ghost use Rattle.fetch_conversation.specs.Receiving.{last_question};
 ghost use Rattle.fetch_remote.specs.Blame.{BlamesFiles, BlamesWorktrees, SparesFiles, lent_files, lent_trees, told_by};
-ghost use Rattle.fetch_shared.specs.Errors.{is_of_peer, is_yes, keep_fault, tree_fault};
+ghost use Rattle.fetch_journal.specs.Errors.{is_of_peer, is_yes, keep_fault, tree_fault};
 ghost use Rattle.fetch_shared.specs.Fetching.{IsSharedFetch, IsSharedRefused, call_of};
 ghost use Rattle.fetch_shared.specs.Passes.{IsBack};
 ghost use Rattle.fetch_shared.specs.Receipts.{IsReceipt};
@@ -13,11 +13,11 @@ ghost use Rattle.fetch_shared.specs.Conversed.{line_of};
 ghost use Rattle.fetch_shared.specs.Valid.{HasValidInput, is_free};
 
 use crate::applying::apply_in_turns;
-use crate::error::SharedError;
 use crate::exchange::{Asking, list_and_receive};
 use crate::pass::Pass;
 use crate::receipt::Receipt;
 use crate::shared::SharedRepository;
+use fetch_journal::SharedError;
 use fetch_remote::phases::apply_options;
 use fetch_remote::{FetchOptions, Outcome, Remote};
 use fetch_store::{Files, NoMemory};

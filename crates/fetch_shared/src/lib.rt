@@ -1,37 +1,27 @@
-//! A repository that several use: its events, and the journal that tells what became of it.
+//! A repository that several use: its passes, and what is fetched and deleted by them.
 #![tactic(auto)]
 
 mod applying;
 mod deleting;
-mod editing;
-mod entry;
-mod error;
 mod events;
 mod exchange;
 mod fetching;
-mod kept_graph;
 pub mod laws;
 mod lock;
 mod lock_rule;
 mod pack_taken;
 mod pass;
-mod plan;
 mod receipt;
-mod replaying;
 mod shared;
-mod state;
-mod taking;
 mod view;
 
 pub use deleting::delete_shared;
-pub use entry::Entry;
-pub use error::SharedError;
 pub use events::ReceivedPack;
+pub use fetch_journal::{
+    Entry, Plan, ReplayFault, Replayed, SharedError, SharedState, Taken, replay,
+};
 pub use fetching::fetch_shared;
 pub use pass::Pass;
-pub use plan::{Plan, Taken};
 pub use receipt::Receipt;
-pub use replaying::{ReplayFault, Replayed, replay};
 pub use shared::SharedRepository;
-pub use state::SharedState;
 pub use view::Span;

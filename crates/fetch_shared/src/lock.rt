@@ -6,15 +6,15 @@
 //! then, who is yet to give it up. Who is woken tries again, so that it wakes the next one, or another does.
 
 ghost use Rattle.std.specs.Prelude.{◌≡◌, [], ◌∷◌, ◌++◌, None};
-ghost use Rattle.fetch_shared.specs.declared.entry.Entry.{Entry};
+ghost use Rattle.fetch_journal.specs.declared.entry.Entry.{Entry};
 ghost use Rattle.fetch_shared.specs.declared.view.Stage.TheVariants.{Resting, Turn};
-ghost use Rattle.fetch_shared.specs.Journals.{pass_of};
-ghost use Rattle.fetch_shared.specs.Shared.{IsKept};
+ghost use Rattle.fetch_journal.specs.Journals.{pass_of};
+ghost use Rattle.fetch_journal.specs.Shared.{IsKept};
 ghost use Rattle.fetch_shared.specs.LockRule.{turning, resting, Finds};
 
 use crate::lock_rule::{Load, Place, Record, Release, Try};
 use crate::shared::SharedRepository;
-use crate::state::SharedState;
+use fetch_journal::SharedState;
 use std::sync::Wait;
 use std::sync::atomic::Ordering::SeqCst;
 

@@ -1,7 +1,7 @@
 //! The rule of the table, and what each step tells.
-use crate::state::SharedState;
 use crate::view::View;
 use atomic_table::{Join, Play, Seat, Split, Table, TableRule};
+use fetch_journal::SharedState;
 use fetch_remote::Repository;
 use opening_value::Opening;
 use std::alloc::Global;

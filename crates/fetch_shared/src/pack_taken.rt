@@ -4,16 +4,15 @@ ghost use Rattle.std.specs.Prelude.{◌≡◌, false, Some, IfOk, IfErr, IfSome,
 ghost use Rattle.fetch_store.specs.Stores.{AreOf};
 ghost use Rattle.fetch_pack.specs.Once.{AreNamed};
 ghost use Rattle.fetch_shared.specs.PackTaken.{HasTakenPack, HasLooked, IsPackUntaken};
-ghost use Rattle.fetch_shared.specs.Journals.{entries_of};
+ghost use Rattle.fetch_journal.specs.Journals.{entries_of};
 ghost use Rattle.fetch_shared.specs.Passes.{IsBack};
-ghost use Rattle.fetch_shared.specs.declared.error.SharedError.TheVariants as errors;
+ghost use Rattle.fetch_journal.specs.declared.error.SharedError.TheVariants as errors;
 
-use crate::error::SharedError;
 use crate::events::ReceivedPack;
 use crate::pass::Pass;
-use crate::plan::Taken;
 use crate::shared::SharedRepository;
 use fetch_conversation::{Negotiate, Received};
+use fetch_journal::{SharedError, Taken};
 use fetch_store::ObjectId;
 use std::alloc::Global;
 use std::sync::Wait;

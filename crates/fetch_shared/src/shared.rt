@@ -2,22 +2,20 @@
 
 ghost use Rattle.std.specs.Prelude.{◌≡◌, ◌↔◌, ◌⊎◌, ℕ, ◌+◌, ◌<◌, ◌≤◌, [], All, IfOk, IsOk, IsOkUnless, MatchOption, Err, slice_get};
 ghost use Rattle.fetch_store.specs.Missing.{unclosed};
-ghost use Rattle.fetch_shared.specs.declared.error.SharedError.TheVariants as errors;
+ghost use Rattle.fetch_journal.specs.declared.error.SharedError.TheVariants as errors;
 ghost use Rattle.fetch_shared.specs.declared.view.Stage.TheVariants.{Resting};
-ghost use Rattle.fetch_shared.specs.Journals.{Begins, entries_of, pass_of};
-ghost use Rattle.fetch_shared.specs.Machine.{held};
+ghost use Rattle.fetch_journal.specs.Journals.{Begins, entries_of, pass_of};
+ghost use Rattle.fetch_journal.specs.Machine.{held};
 ghost use Rattle.fetch_shared.specs.Numbers.{span, Holds};
-ghost use Rattle.fetch_shared.specs.Shared.{IsKept};
+ghost use Rattle.fetch_journal.specs.Shared.{IsKept};
 ghost use Rattle.fetch_shared.specs.LockRule.{left_part, right_part};
 
-use crate::entry::Entry;
-use crate::error::SharedError;
 use crate::lock::TURN;
 use crate::lock_rule::{Cut, Desk, Glue, Learn, Place, Settle, Share};
 use crate::pass::Pass;
-use crate::state::SharedState;
 use crate::view::Span;
 use fetch_conversation::Settings;
+use fetch_journal::{Entry, SharedError, SharedState};
 use fetch_remote::Repository;
 use opening_value::Opening;
 use std::alloc::Global;

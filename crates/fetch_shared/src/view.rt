@@ -1,6 +1,6 @@
 //! What seats at the table know. No value of these types is made but `Span`.
 
-use crate::entry::Entry;
+use fetch_journal::Entry;
 use fetch_remote::Repository;
 use std::collections::LinkedList;
 

@@ -11,7 +11,7 @@ use Rattle.fetch_cli.specs.Run.{Are}
 use Rattle.fetch_cli.specs.ServerScenes.{server_scene_of}
 use Rattle.fetch_cli.specs.declared.program.server_scene.ServerScene.{ServerScene}
 use Rattle.fetch_serve.specs.Served.{Data}
-use Rattle.fetch_shared.specs.declared.entry.Entry.{Entry}
+use Rattle.fetch_journal.specs.declared.entry.Entry.{Entry}
 use Rattle.fetch_mirror.specs.Copying.{IsCopied, IsUncopied}
 use Rattle.fetch_mirror.specs.Mirrors.{IsMirrored}
 use Rattle.fetch_mirror.specs.declared.error.MirrorError.{MirrorError}

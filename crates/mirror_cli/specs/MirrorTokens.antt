@@ -6,7 +6,7 @@ use Rattle.fetch_conversation.specs.declared.prepare.Error.TheVariants as prepar
 use Rattle.fetch_remote.specs.declared.fetching.fetch_error.FetchError.TheVariants as fetch
 use Rattle.fetch_asked.specs.declared.error.ServeError.{ServeError}
 use Rattle.fetch_asked.specs.declared.error.ServeError.TheVariants as serve
-use Rattle.fetch_shared.specs.declared.error.SharedError.{SharedError}
+use Rattle.fetch_journal.specs.declared.error.SharedError.{SharedError}
 use Rattle.fetch_mirror.specs.declared.error.MirrorError.{MirrorError}
 use Rattle.fetch_mirror.specs.declared.error.MirrorError.TheVariants as errors
 use Rattle.fetch_cli.specs.Tokens.{keeping, token}

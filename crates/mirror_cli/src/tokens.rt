@@ -5,10 +5,10 @@ ghost use Rattle.mirror_cli.specs.MirrorTokens as spec;
 
 use fetch_cli::append_token;
 use fetch_cli::tokens::{append_both, append_count, append_digits, append_text, append_word};
+use fetch_journal::SharedError;
 use fetch_mirror::MirrorError;
 use fetch_remote::{FetchError, prepare};
 use fetch_serve::ServeError;
-use fetch_shared::SharedError;
 use fetch_store::NoMemory;
 use race_cli::append_shared_token;
 

@@ -3,10 +3,10 @@ use Rattle.std.proofs.Common.{◌≡◌, ◌⊎◌, ℕ, ◌≤◌, Bool, true, 
 use Rattle.std.specs.Prelude.{slice_get}
 use Rattle.fetch_store.specs.Missing.{unclosed}
 use Rattle.fetch_store.specs.declared.missing.Missing.{Missing}
-use Rattle.fetch_shared.specs.Machine.{held}
-use Rattle.fetch_shared.specs.Replays.{Outline}
-use Rattle.fetch_shared.specs.declared.entry.Entry.{Entry}
-use Rattle.fetch_shared.specs.declared.error.SharedError.{SharedError}
+use Rattle.fetch_journal.specs.Machine.{held}
+use Rattle.fetch_journal.specs.Replays.{Outline}
+use Rattle.fetch_journal.specs.declared.entry.Entry.{Entry}
+use Rattle.fetch_journal.specs.declared.error.SharedError.{SharedError}
 use Rattle.fetch_cli.specs.Written.{IsAnswered}
 use Rattle.race_cli.specs.RaceReports.{Answer, any_refused, status_of, IsRaceReport, IsRefusedReport}
 use Rattle.race_cli.specs.RaceRun.{IsToldUnless, IsSceneAnswer, IsAnswerTo, IsRaceAnswer}

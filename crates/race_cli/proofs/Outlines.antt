@@ -10,7 +10,7 @@ use Rattle.fetch_store.proofs.Keys.{keys-rise}
 use Rattle.fetch_cli.specs.Report.{ref_lines}
 use Rattle.fetch_cli.specs.ReportLines.{border_line, id_line}
 use Rattle.fetch_remote.specs.RepositoryValues.{RepositoryValue}
-use Rattle.fetch_shared.specs.Replays.{outline}
+use Rattle.fetch_journal.specs.Replays.{outline}
 use Rattle.race_cli.specs.RaceReports.{outline_lines}
 
 -- The ids of an outline are those of the repository's objects.

@@ -1,8 +1,8 @@
 -- A race is told by its journal.
 use Rattle.std.proofs.Common.{◌≡◌, ℕ, List, sym, ap, ◌∙◌}
 use Rattle.fetch_remote.specs.RepositoryValues.{RepositoryValue}
-use Rattle.fetch_shared.specs.Replays.{Outline, outline, replay}
-use Rattle.fetch_shared.specs.declared.entry.Entry.{Entry}
+use Rattle.fetch_journal.specs.Replays.{Outline, outline, replay}
+use Rattle.fetch_journal.specs.declared.entry.Entry.{Entry}
 use Rattle.race_cli.specs.RaceReports.{Answer, race_report, race_of, IsRaceReport}
 use Rattle.race_cli.specs.RaceCases.{opening_of}
 use Rattle.race_cli.specs.declared.scene.RaceScene.{RaceScene}

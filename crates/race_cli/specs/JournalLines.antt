@@ -10,8 +10,8 @@ use Rattle.fetch_refs.specs.declared.edit.RefLog.TheVariants.{AndReference, Only
 use Rattle.fetch_refs.specs.declared.target.Target.{Target}
 use Rattle.fetch_base.specs.Digits.{hex_of}
 use Rattle.fetch_cli.specs.ReportLines.{target_text}
-use Rattle.fetch_shared.specs.declared.entry.Entry.{Entry}
-use Rattle.fetch_shared.specs.declared.entry.Entry.TheVariants as entries
+use Rattle.fetch_journal.specs.declared.entry.Entry.{Entry}
+use Rattle.fetch_journal.specs.declared.entry.Entry.TheVariants as entries
 
 -- what was done, at which place, and the number of the pass that did it
 unfoldable pub entry_line : List ℕ → ℕ → ℕ → List ℕ

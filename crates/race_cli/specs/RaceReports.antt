@@ -5,11 +5,11 @@ use Rattle.fetch_store.specs.Borders.{ids_of}
 use Rattle.fetch_remote.specs.declared.fetching.outcome.Outcome.{Outcome}
 use Rattle.fetch_cli.specs.Report.{ref_lines}
 use Rattle.fetch_cli.specs.ReportLines.{border_line, id_line, refused_line}
-use Rattle.fetch_shared.specs.Replays.{Outline, outline, replay}
-use Rattle.fetch_shared.specs.Shared.{is_memory}
-use Rattle.fetch_shared.specs.declared.entry.Entry.{Entry}
-use Rattle.fetch_shared.specs.declared.error.SharedError.{SharedError}
-use Rattle.fetch_shared.specs.declared.error.SharedError.TheVariants as errors
+use Rattle.fetch_journal.specs.Replays.{Outline, outline, replay}
+use Rattle.fetch_journal.specs.Shared.{is_memory}
+use Rattle.fetch_journal.specs.declared.entry.Entry.{Entry}
+use Rattle.fetch_journal.specs.declared.error.SharedError.{SharedError}
+use Rattle.fetch_journal.specs.declared.error.SharedError.TheVariants as errors
 use Rattle.race_cli.specs.JournalLines.{journal_lines}
 use Rattle.race_cli.specs.RaceCases.{opening_of}
 use Rattle.race_cli.specs.SharedTokens.{shared_token}

@@ -8,9 +8,9 @@ use Rattle.fetch_wire.specs.Scripts.{Script, talk_of}
 use Rattle.fetch_cli.specs.Io.{IsAll}
 use Rattle.fetch_cli.specs.ReportLines.{malformed_line, malformed_word_line}
 use Rattle.fetch_cli.specs.Run.{Are}
-use Rattle.fetch_shared.specs.Machine.{held}
-use Rattle.fetch_shared.specs.Replays.{outline}
-use Rattle.fetch_shared.specs.declared.error.SharedError.TheVariants as errors
+use Rattle.fetch_journal.specs.Machine.{held}
+use Rattle.fetch_journal.specs.Replays.{outline}
+use Rattle.fetch_journal.specs.declared.error.SharedError.TheVariants as errors
 use Rattle.fetch_race.specs.Racing.{Race, IsRaced}
 use Rattle.fetch_race.specs.declared.job.Job.{Job}
 use Rattle.fetch_race.specs.declared.job.Raced.{Raced}

@@ -9,8 +9,8 @@ use Rattle.fetch_remote.specs.declared.delete.Error.{Error as DeleteError}
 use Rattle.fetch_remote.specs.declared.delete.Error.TheVariants as delete
 use Rattle.fetch_remote.specs.declared.repository.open_error.OpenError.{OpenError}
 use Rattle.fetch_remote.specs.declared.repository.open_error.OpenError.TheVariants as open_errors
-use Rattle.fetch_shared.specs.declared.error.SharedError.{SharedError}
-use Rattle.fetch_shared.specs.declared.error.SharedError.TheVariants as shared
+use Rattle.fetch_journal.specs.declared.error.SharedError.{SharedError}
+use Rattle.fetch_journal.specs.declared.error.SharedError.TheVariants as shared
 use Rattle.fetch_base.specs.Digits.{hex_of}
 use Rattle.fetch_cli.specs.Tokens.{keeping, found_text, token}
 

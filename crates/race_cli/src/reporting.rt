@@ -8,7 +8,7 @@ pub mod tokens;
 ghost use Rattle.std.specs.Prelude.{◌≡◌, ◌++◌, IfOk, OnOk, IsErr};
 ghost use Rattle.std.specs.List.{list_any};
 ghost use Rattle.fetch_cli.specs.ReportLines.{refused_line};
-ghost use Rattle.fetch_shared.specs.Replays.{outline};
+ghost use Rattle.fetch_journal.specs.Replays.{outline};
 ghost use Rattle.race_cli.specs.RaceReports as spec;
 ghost use Rattle.race_cli.specs.RaceReports.{IsRaceReport, IsRefusedReport};
 ghost use Rattle.race_cli.specs.SharedTokens.{shared_token};
@@ -18,8 +18,8 @@ use crate::reporting::refusals::{any_out_of_memory, any_refused, append_refusals
 use crate::reporting::state_lines::append_outline;
 use crate::reporting::tokens::append_shared_token;
 use fetch_cli::append_refused;
+use fetch_journal::{Entry, SharedError};
 use fetch_remote::{Outcome, Repository};
-use fetch_shared::{Entry, SharedError};
 use fetch_store::NoMemory;
 use std::alloc::Global;
 

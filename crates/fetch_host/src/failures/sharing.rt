@@ -1,8 +1,8 @@
 //! Failures of a shared repository, and of a configuration file.
 
 use crate::failure::{Failure, FailureKind};
+use fetch_journal::SharedError;
 use fetch_remote::{OpenError, delete};
-use fetch_shared::SharedError;
 
 impl Failure for OpenError {
     ghost use Rattle.fetch_host.specs.SharedFailures.{opening_kind};

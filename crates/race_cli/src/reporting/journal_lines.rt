@@ -5,8 +5,8 @@ ghost use Rattle.std.specs.List.{flat_map};
 ghost use Rattle.race_cli.specs.JournalLines as spec;
 
 use fetch_cli::append_target;
+use fetch_journal::Entry;
 use fetch_refs::{Change, RefEdit, RefLog, Target};
-use fetch_shared::Entry;
 use fetch_specs::FullName;
 use fetch_store::{NoMemory, ObjectId, append_hex, append_number};
 

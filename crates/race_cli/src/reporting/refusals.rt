@@ -2,13 +2,13 @@
 
 ghost use Rattle.std.specs.Prelude.{◌≡◌, ◌++◌, is_err, OnOk};
 ghost use Rattle.std.specs.List.{list_any};
-ghost use Rattle.fetch_shared.specs.Shared.{is_memory};
+ghost use Rattle.fetch_journal.specs.Shared.{is_memory};
 ghost use Rattle.race_cli.specs.RaceReports as spec;
 
 use crate::reporting::tokens::append_shared_token;
 use fetch_cli::append_refused;
+use fetch_journal::SharedError;
 use fetch_remote::Outcome;
-use fetch_shared::SharedError;
 use fetch_store::{NoMemory, append_number};
 
 fn is_no_memory(refusal: &SharedError) -> bool

@@ -1,7 +1,7 @@
 //! What the report of a race tells of the repository.
 
 ghost use Rattle.std.specs.Prelude.{◌≡◌, ◌++◌, OnOk};
-ghost use Rattle.fetch_shared.specs.Replays.{outline};
+ghost use Rattle.fetch_journal.specs.Replays.{outline};
 ghost use Rattle.race_cli.specs.RaceReports as spec;
 
 use fetch_cli::{append_commits, append_ids, append_refs};

@@ -8,9 +8,9 @@ use fetch_cli::append_token;
 use fetch_cli::tokens::{
     append_both, append_count, append_digits, append_found, append_text, append_word,
 };
+use fetch_journal::SharedError;
 use fetch_refs::Target;
 use fetch_remote::{OpenError, delete};
-use fetch_shared::SharedError;
 use fetch_specs::FullName;
 use fetch_store::{NoMemory, Text};
 

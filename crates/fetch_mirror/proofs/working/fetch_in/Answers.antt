@@ -1,5 +1,5 @@
 use Rattle.std.proofs.Common.{rules, List, [], map, refl, sym, subst, ◌∙◌}
-use Rattle.fetch_shared.specs.declared.entry.Entry.{Entry}
+use Rattle.fetch_journal.specs.declared.entry.Entry.{Entry}
 use Rattle.fetch_race.specs.Racing.{Race}
 use Rattle.fetch_race.specs.Passes.{HaveRaced}
 use Rattle.fetch_race.proofs.Arrived.{all_held}

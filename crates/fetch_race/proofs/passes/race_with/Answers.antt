@@ -1,7 +1,7 @@
 use Rattle.std.proofs.Common.{rules, refl}
 use Rattle.std.specs.Prelude.{slice_get}
 use Rattle.fetch_store.specs.Missing.{unclosed}
-use Rattle.fetch_shared.specs.Machine.{held}
+use Rattle.fetch_journal.specs.Machine.{held}
 use Rattle.fetch_race.proofs.Unraced.{shared, shared_ok, refused}
 use Rattle.fetch_race.proofs.passes.race_with.Goals as goal
 

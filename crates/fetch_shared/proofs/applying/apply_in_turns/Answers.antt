@@ -6,7 +6,7 @@ use Rattle.fetch_remote.proofs.Blamed.{files_still, files_as, trees_still, trees
 use Rattle.fetch_remote.proofs.Keeping.{dry_none}
 use Rattle.fetch_shared.specs.Applying.{Matter}
 use Rattle.fetch_shared.proofs.Back.{back_trans}
-use Rattle.fetch_shared.proofs.Journals.{begins_self}
+use Rattle.fetch_journal.proofs.Journals.{begins_self}
 use Rattle.fetch_shared.proofs.Owned.{unbrought_own, unmoved_own, unmoved_late, judging_late, own_keep, own_trees}
 use Rattle.fetch_shared.proofs.Applied.{unbrought, stopped, unmoved, unreleased, settles, removable_by, kept_nothing, read_nothing}
 use Rattle.fetch_shared.proofs.Told.{receiving_keeps, receiving_trees}

@@ -2,7 +2,7 @@ use Rattle.std.proofs.Common.{refl, ◌∙◌}
 use Rattle.fetch_conversation.specs.Errors.{is_interrupted, is_stopped}
 use Rattle.fetch_conversation.proofs.Blame.{peer_then, interrupt_then, interrupt_as}
 use Rattle.fetch_conversation.proofs.Heeded.{same_question}
-use Rattle.fetch_shared.specs.Errors.{is_yes}
+use Rattle.fetch_journal.specs.Errors.{is_yes}
 use Rattle.fetch_shared.specs.Conversed.{given_to}
 use Rattle.fetch_shared.proofs.Saw.{back_self}
 use Rattle.fetch_shared.proofs.Spoken.{has_conversed_over, broke_listing, broke_planning, broke_receiving, kind_received, named_by}

@@ -3,7 +3,7 @@ use Rattle.fetch_conversation.specs.ListStage.{shown}
 use Rattle.fetch_conversation.proofs.Blame.{interrupt_still, interrupt_as}
 use Rattle.fetch_conversation.proofs.Heeded.{no_question}
 use Rattle.fetch_remote.proofs.Blamed.{peer_as, files_still, trees_still}
-use Rattle.fetch_shared.specs.Errors.{is_yes}
+use Rattle.fetch_journal.specs.Errors.{is_yes}
 use Rattle.fetch_shared.specs.Fetching.{Call}
 use Rattle.fetch_shared.specs.Passes.{Which}
 use Rattle.fetch_shared.specs.Applying.{Matter}

@@ -1,6 +1,6 @@
 use Rattle.std.proofs.Common.{List, subst, ◌∙◌, arith}
 use Rattle.std.proofs.lemmas.Result.{IfOk-weaker}
-use Rattle.fetch_shared.specs.Replays.{outline}
+use Rattle.fetch_journal.specs.Replays.{outline}
 use Rattle.race_cli.specs.RaceReports.{IsRaceReport, IsRefusedReport}
 use Rattle.race_cli.specs.RaceRun.{AreSetUp, IsRaceOf}
 use Rattle.race_cli.specs.RaceCases.{opening_of}

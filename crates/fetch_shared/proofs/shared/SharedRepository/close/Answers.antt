@@ -1,7 +1,7 @@
 use Rattle.std.proofs.Common.{◌≡◌, ℕ, ◌<◌, sym, ◌∙◌, subst}
 use Rattle.fetch_shared.specs.Numbers.{Holds}
 use Rattle.fetch_shared.specs.Passes.{Holder}
-use Rattle.fetch_shared.proofs.Journals.{all_entries}
+use Rattle.fetch_journal.proofs.Journals.{all_entries}
 use Rattle.fetch_shared.proofs.shared.SharedRepository.close.Goals as goal
 
 pub returns-clause-whole : goal.returns-clause-whole

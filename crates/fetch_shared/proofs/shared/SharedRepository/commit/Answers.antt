@@ -1,7 +1,7 @@
 use Rattle.std.proofs.Common.{[], ◌∷◌, ◌++◌, length, refl, sym, ap, ◌∙◌}
-use Rattle.fetch_shared.specs.declared.entry.Entry.TheVariants as entries
-use Rattle.fetch_shared.specs.Machine.Event.{Commit}
-use Rattle.fetch_shared.specs.Shared.{SharedValue}
+use Rattle.fetch_journal.specs.declared.entry.Entry.TheVariants as entries
+use Rattle.fetch_journal.specs.Machine.Event.{Commit}
+use Rattle.fetch_journal.specs.Shared.{SharedValue}
 use Rattle.fetch_shared.specs.LockRule.{turning, resting}
 use Rattle.fetch_shared.proofs.Turned.{entered, refused}
 use Rattle.fetch_shared.proofs.shared.SharedRepository.commit.Goals as goal

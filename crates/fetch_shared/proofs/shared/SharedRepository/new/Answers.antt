@@ -1,7 +1,7 @@
 use Rattle.std.proofs.Common.{rules, sym, ap, subst, ◌∙◌}
 use Rattle.fetch_shared.specs.declared.view.View.{View}
 use Rattle.fetch_shared.specs.Numbers.{Holds}
-use Rattle.fetch_shared.specs.Shared.{SharedValue}
+use Rattle.fetch_journal.specs.Shared.{SharedValue}
 use Rattle.fetch_shared.specs.LockRule.{own}
 use Rattle.fetch_shared.proofs.Starts.{starts, holds_all}
 use Rattle.fetch_shared.proofs.shared.SharedRepository.new.Goals as goal

@@ -1,6 +1,6 @@
 use Rattle.std.proofs.Common.{refl, ap, ◌∙◌}
-use Rattle.fetch_shared.specs.Machine.Event.{Plan}
-use Rattle.fetch_shared.specs.Shared.{plan_of}
+use Rattle.fetch_journal.specs.Machine.Event.{Plan}
+use Rattle.fetch_journal.specs.Shared.{plan_of}
 use Rattle.fetch_shared.specs.LockRule.{resting}
 use Rattle.fetch_shared.proofs.Turned.{looked}
 use Rattle.fetch_shared.proofs.shared.SharedRepository.plan.Goals as goal

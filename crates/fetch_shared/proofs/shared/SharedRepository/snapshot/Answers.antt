@@ -1,6 +1,6 @@
 use Rattle.std.proofs.Common.{refl, ap, ◌∙◌}
-use Rattle.fetch_shared.specs.Machine.Event.{Snapshot}
-use Rattle.fetch_shared.specs.Shared.{snapshot_of}
+use Rattle.fetch_journal.specs.Machine.Event.{Snapshot}
+use Rattle.fetch_journal.specs.Shared.{snapshot_of}
 use Rattle.fetch_shared.specs.LockRule.{resting}
 use Rattle.fetch_shared.proofs.Turned.{looked}
 use Rattle.fetch_shared.proofs.shared.SharedRepository.snapshot.Goals as goal

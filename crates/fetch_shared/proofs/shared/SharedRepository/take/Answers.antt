@@ -1,12 +1,12 @@
 use Rattle.std.proofs.Common.{[], ◌∷◌, ◌++◌, refl, sym, ap, ◌∙◌, subst, map}
-use Rattle.fetch_shared.specs.declared.entry.Entry.TheVariants as entries
-use Rattle.fetch_shared.specs.Machine.Event.{Take}
+use Rattle.fetch_journal.specs.declared.entry.Entry.TheVariants as entries
+use Rattle.fetch_journal.specs.Machine.Event.{Take}
 use Rattle.fetch_store.specs.Stores.{AreOf}
 use Rattle.fetch_remote.specs.RepositoryValues.{RepositoryValue}
 use Rattle.fetch_shared.specs.Received.{pack_in}
-use Rattle.fetch_shared.specs.Shared.{SharedValue, done, snapshot_of}
+use Rattle.fetch_journal.specs.Shared.{SharedValue, done, snapshot_of}
 use Rattle.fetch_shared.specs.LockRule.{turning, resting}
-use Rattle.fetch_shared.proofs.Effects.{kept_hash}
+use Rattle.fetch_journal.proofs.Effects.{kept_hash}
 use Rattle.fetch_shared.proofs.Turned.{entered, refused}
 use Rattle.fetch_shared.proofs.shared.SharedRepository.take.Goals as goal
 

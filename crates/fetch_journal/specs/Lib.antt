@@ -1,0 +1,10 @@
+pub mod Deletions
+pub mod Machine
+pub mod Replays
+pub mod Fronts
+pub mod Faults
+pub mod Codes
+pub mod Shared
+pub mod Unmet
+pub mod Journals
+pub mod Errors
