@@ -1,5 +1,0 @@
-pub mod RequestTexts
-pub mod Requests
-pub mod Reads
-pub mod Texts
-pub mod Intakes

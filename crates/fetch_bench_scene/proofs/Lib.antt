@@ -1,6 +1,0 @@
-mod BenchParts
-mod BenchObjects
-mod PlacedLines
-mod SceneParts
-mod BenchLengths
-mod BenchRead

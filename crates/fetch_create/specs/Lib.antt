@@ -1,9 +1,0 @@
-pub mod Configuration
-pub mod Plans
-pub mod Creation
-pub mod HostFaults
-pub mod Branches
-pub mod RemoteNames
-pub mod Upstreams
-pub mod Replacing
-pub mod Versioned

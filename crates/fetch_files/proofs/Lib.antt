@@ -1,4 +1,0 @@
-pub mod Slashes
-pub mod FiniteMaps
-pub mod TreeChanges
-pub mod Rooted

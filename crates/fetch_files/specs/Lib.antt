@@ -1,4 +1,0 @@
-pub mod Paths
-pub mod Trees
-pub mod TreeCodes
-pub mod FileCalls

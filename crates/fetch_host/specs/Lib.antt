@@ -1,5 +1,0 @@
-pub mod FetchFailures
-pub mod SharedFailures
-pub mod CloneFailures
-pub mod Streams
-pub mod Heads

@@ -1,6 +1,0 @@
-//! Which failure each error tells of.
-
-mod cloning;
-mod conversing;
-mod fetching;
-mod sharing;

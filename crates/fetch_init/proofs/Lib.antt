@@ -1,4 +1,0 @@
-pub mod NamedRefs
-pub mod Alone
-pub mod Opened
-pub mod Headed

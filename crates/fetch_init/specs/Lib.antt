@@ -1,7 +1,0 @@
-pub mod Revisions
-pub mod NamedRefs
-pub mod HeadTargets
-pub mod Initial
-pub mod HeadUpdates
-pub mod RemoteSections
-pub mod Refusals

@@ -1,9 +1,0 @@
-use Rattle.std.proofs.Common.{sym}
-use Rattle.fetch_lines.proofs.WordLaws.{words-some, words-none}
-use Rattle.fetch_lines.proofs.lines.words.next_word.Goals as goal
-
-pub returns-in-Some-clause-words : goal.returns-in-Some-clause-words
-returns-in-Some-clause-words c = words-some c.args.text.now c.in-Some.word.now c.in-Some.rest.now (sym c.in-Some.ensures)
-
-pub returns-in-None-clause-words : goal.returns-in-None-clause-words
-returns-in-None-clause-words c = words-none c.args.text.now (sym c.in-None.ensures)

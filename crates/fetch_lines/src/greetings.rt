@@ -1,4 +1,0 @@
-//! What a server offers, as a record.
-
-pub mod greeting;
-pub mod handshake;

@@ -1,4 +1,0 @@
-//! The references of a remote, and where they go.
-
-pub mod mapping;
-pub mod reference;

@@ -1,5 +1,0 @@
-//! A server: what it says, as lines.
-
-pub mod advertising;
-pub mod reply_lines;
-pub mod server_lines;

@@ -1,3 +1,0 @@
-pub mod Racing
-pub mod Passes
-pub mod Rooms

@@ -1,4 +1,0 @@
-pub mod Sets
-pub mod OwnIds
-pub mod Written
-pub mod Leaving

@@ -1,4 +1,0 @@
-pub mod Sets
-pub mod Named
-pub mod Stored
-pub mod Whole

@@ -1,9 +1,0 @@
-//! Remotes and branches of a repository: how they are found, named, changed and connected.
-
-pub mod changing;
-pub mod direction;
-pub mod finding;
-pub mod naming;
-pub mod resolving;
-pub mod scripted_connect;
-pub mod upstream;

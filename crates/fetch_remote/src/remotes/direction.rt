@@ -1,3 +1,0 @@
-//! Fetching or pushing.
-
-pub use fetch_lookup::Direction;

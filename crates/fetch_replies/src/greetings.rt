@@ -1,4 +1,0 @@
-//! Greetings: what a server says first.
-
-pub mod advertisement;
-pub mod opening;

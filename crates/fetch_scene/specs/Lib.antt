@@ -1,9 +1,0 @@
-pub mod SceneLines
-pub mod Gives
-pub mod Numbers
-pub mod SceneHead
-pub mod LineKinds
-pub mod SceneRefs
-pub mod SceneConfig
-pub mod SceneOptions
-pub mod Scene

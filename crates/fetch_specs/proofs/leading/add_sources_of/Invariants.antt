@@ -1,9 +1,0 @@
-use Rattle.std.proofs.Common.{◌≡◌, drop, map}
-use Rattle.fetch_specs.specs.Matches.{added_all, names_from, source_matches}
-use Rattle.fetch_specs.proofs.leading.add_sources_of.Given as goal
-
-abbrev pub invariant-loop-j : goal.invariant-loop-j
-invariant-loop-j l = record {
-  pairs : l.found.pairs ≡ l.initial.found.pairs;
-  added : added_all l.found.pairs l.found.matches (names_from (source_matches l.specs l.index l.spec) l.j (map (λ item. item.full_ref_name) (drop l.j l.items))) ≡ added_all l.initial.found.pairs l.initial.found.matches (names_from (source_matches l.specs l.index l.spec) 0 (map (λ item. item.full_ref_name) l.items));
-}

@@ -1,3 +1,0 @@
-pub mod Answering
-pub mod Mirrors
-pub mod Reports

@@ -1,4 +1,0 @@
-pub mod MirrorWords
-pub mod MirrorTokens
-pub mod MirrorReports
-pub mod MirrorRun

@@ -1,7 +1,0 @@
-pub mod Answering
-pub mod Jobs
-pub mod Inputs
-pub mod Outlines
-pub mod OneJob
-pub mod Told
-pub mod Raced

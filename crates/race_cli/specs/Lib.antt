@@ -1,9 +1,0 @@
-pub mod Jobs
-pub mod RaceScenes
-pub mod RaceInputs
-pub mod RaceWords
-pub mod RaceCases
-pub mod JournalLines
-pub mod SharedTokens
-pub mod RaceReports
-pub mod RaceRun
