@@ -7,7 +7,7 @@ use Rattle.fetch_files.specs.Trees.{Tree}
 use Rattle.fetch_lookup.specs.declared.direction.Direction.TheVariants.{Fetch}
 use Rattle.fetch_update.specs.declared.worktrees.Worktree.{Worktree}
 use Rattle.fetch_lines.specs.Talks.{Talk}
-use Rattle.fetch_lines.specs.declared.listings.mapping.RefMap.{RefMap}
+use Rattle.fetch_map.specs.declared.mapping.RefMap.{RefMap}
 use Rattle.fetch_conversation.specs.declared.ref_map.Error.{Error as MapError}
 use Rattle.fetch_conversation.specs.declared.ref_map.Error.TheVariants as ref_map
 use Rattle.fetch_remote.specs.Connecting.{IsMissing, Makes, MakesAtFirst, TakesBack}

@@ -4,7 +4,7 @@ use Rattle.std.specs.Prelude.{IfErr, is_some}
 use Rattle.fetch_config.specs.Contents.{Contents}
 use Rattle.fetch_base.specs.Faults.{Faults, Counts, Rose, Rose-earlier}
 use Rattle.fetch_files.specs.Trees.{Tree}
-use Rattle.fetch_lines.specs.declared.listings.mapping.RefMap.{RefMap}
+use Rattle.fetch_map.specs.declared.mapping.RefMap.{RefMap}
 use Rattle.fetch_update.specs.declared.update.Error.TheVariants as update
 use Rattle.fetch_update.specs.declared.worktrees.WorktreeFault.TheVariants.{Listing, OpenRepo, FollowSymref}
 use Rattle.fetch_conversation.specs.Errors.{is_client, is_stopped}

@@ -6,7 +6,7 @@ use Rattle.fetch_base.specs.declared.id.Kind.{Kind}
 use Rattle.fetch_base.specs.declared.id.Kind.TheVariants as hashes
 use Rattle.fetch_config.specs.Contents.{Contents}
 use Rattle.fetch_update.specs.declared.worktrees.Worktree.{Worktree}
-use Rattle.fetch_lines.specs.declared.listings.mapping.RefMap.{RefMap}
+use Rattle.fetch_map.specs.declared.mapping.RefMap.{RefMap}
 use Rattle.fetch_remote.specs.Repositories.{reopened}
 use Rattle.fetch_remote.specs.RepositoryValues.{RepositoryValue, Setup}
 use Rattle.fetch_remote.specs.declared.fetching.outcome.Outcome.{Outcome}

@@ -5,7 +5,7 @@ use Rattle.fetch_files.specs.Trees.{Tree}
 use Rattle.fetch_update.specs.declared.message.RefLogMessage.TheVariants.{Override}
 use Rattle.fetch_update.specs.declared.worktrees.Worktree.{Worktree}
 use Rattle.fetch_lines.specs.Talks.{Talk}
-use Rattle.fetch_lines.specs.declared.listings.mapping.RefMap.{RefMap}
+use Rattle.fetch_map.specs.declared.mapping.RefMap.{RefMap}
 use Rattle.fetch_conversation.specs.declared.fetch.Error.{Error as ReceiveError}
 use Rattle.fetch_conversation.specs.declared.fetch.Error.TheVariants as fetch
 use Rattle.fetch_remote.specs.Connecting.{TakesBack}

@@ -2,7 +2,7 @@
 use Rattle.std.specs.Prelude.{◌≡◌, ◌⊎◌, ℕ, Bool, true, false, List, [], ◌∷◌, codes, Option, Some, None, is_some, unwrap_or, Result, Ok, ⊤}
 use Rattle.fetch_base.specs.Faults.{Faults}
 use Rattle.fetch_specs.specs.Parses.{parsed}
-use Rattle.fetch_lines.specs.declared.listings.mapping.RefMap.{RefMap}
+use Rattle.fetch_map.specs.declared.mapping.RefMap.{RefMap}
 use Rattle.fetch_specs.specs.Specs.{Spec}
 use Rattle.fetch_specs.specs.declared.operation.Operation.TheVariants.{Fetch}
 use Rattle.fetch_specs.specs.declared.tags.Tags.TheVariants as tags

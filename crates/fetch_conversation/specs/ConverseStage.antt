@@ -22,7 +22,7 @@ use Rattle.fetch_lines.specs.declared.greetings.handshake.Capability.{Capability
 use Rattle.fetch_lines.specs.declared.greetings.handshake.Handshake.{Handshake}
 use Rattle.fetch_lines.specs.declared.greetings.handshake.Version.{Version}
 use Rattle.fetch_lines.specs.declared.greetings.handshake.Version.TheVariants as versions
-use Rattle.fetch_lines.specs.declared.listings.mapping.RefMap.{RefMap}
+use Rattle.fetch_map.specs.declared.mapping.RefMap.{RefMap}
 use Rattle.fetch_lines.specs.declared.requests.records.FetchReply.{FetchReply}
 use Rattle.fetch_negotiate.specs.declared.algorithm.Algorithm.{Algorithm}
 use Rattle.fetch_negotiate.specs.declared.algorithm.Algorithm.TheVariants as algorithms

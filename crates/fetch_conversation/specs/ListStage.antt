@@ -23,7 +23,7 @@ use Rattle.fetch_replies.specs.declared.replies.reply.ParsedReply.TheVariants as
 use Rattle.fetch_lines.specs.declared.error.WireError.{WireError}
 use Rattle.fetch_lines.specs.declared.error.WireError.TheVariants as wire
 use Rattle.fetch_lines.specs.declared.greetings.handshake.Handshake.{Handshake}
-use Rattle.fetch_lines.specs.declared.listings.mapping.RefMap.{RefMap}
+use Rattle.fetch_map.specs.declared.mapping.RefMap.{RefMap}
 use Rattle.fetch_lines.specs.declared.listings.reference.Ref.{Ref}
 use Rattle.fetch_wire.specs.declared.session.turn.Turn.TheVariants as turns
 use Rattle.fetch_conversation.specs.Conversation.{Conversation, ends, asks, asks_unless, asking}

@@ -8,9 +8,9 @@ use Rattle.fetch_specs.specs.declared.found.SourceRef.{SourceRef}
 use Rattle.fetch_specs.specs.declared.found.SourceRef.TheVariants as matched
 use Rattle.fetch_specs.specs.Matches.{mappings_of}
 use Rattle.fetch_specs.specs.Specs.{Spec}
-use Rattle.fetch_lines.specs.declared.listings.mapping.Mapping.{Mapping}
-use Rattle.fetch_lines.specs.declared.listings.mapping.SpecIndex.{SpecIndex}
-use Rattle.fetch_lines.specs.declared.listings.mapping.SpecIndex.TheVariants.{ExplicitInRemote, Implicit}
+use Rattle.fetch_map.specs.declared.mapping.Mapping.{Mapping}
+use Rattle.fetch_map.specs.declared.mapping.SpecIndex.{SpecIndex}
+use Rattle.fetch_map.specs.declared.mapping.SpecIndex.TheVariants.{ExplicitInRemote, Implicit}
 use Rattle.fetch_lines.specs.declared.listings.reference.Ref.{Ref}
 use Rattle.fetch_lines.specs.declared.listings.reference.Source.{Source}
 use Rattle.fetch_lines.specs.declared.listings.reference.Source.TheVariants as sources

@@ -9,7 +9,7 @@ use Rattle.fetch_config.specs.Contents.{Contents}
 use Rattle.fetch_config.specs.Print.{text_of}
 use Rattle.fetch_remote.specs.Paths.{config_path}
 use Rattle.fetch_specs.specs.Specs.{Spec}
-use Rattle.fetch_lines.specs.declared.listings.mapping.RefMap.{RefMap}
+use Rattle.fetch_map.specs.declared.mapping.RefMap.{RefMap}
 use Rattle.fetch_remote.specs.Repositories.{state_of, setup_of}
 use Rattle.fetch_remote.specs.RepositoryValues.{RepositoryValue, Setup, State}
 use Rattle.fetch_init.specs.HeadTargets.{is_memory}

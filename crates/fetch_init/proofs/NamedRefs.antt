@@ -8,7 +8,7 @@ use Rattle.std.proofs.lemmas.List.Elements.{filter_map-append}
 use Rattle.std.proofs.lemmas.Slice.Eq.{bytes_eq-Decides}
 use Rattle.fetch_specs.proofs.Keys.{once-push, any-once}
 use Rattle.fetch_specs.specs.Matches.{once}
-use Rattle.fetch_lines.specs.declared.listings.mapping.Mapping.{Mapping}
+use Rattle.fetch_map.specs.declared.mapping.Mapping.{Mapping}
 use Rattle.fetch_init.specs.NamedRefs.{written_out, taken_at, taken_of, is_same, with_new, only_one, or_taken, ref_named_in}
 use Rattle.fetch_init.specs.declared.named_ref.NamedRef.{NamedRef}
 

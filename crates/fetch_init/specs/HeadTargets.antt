@@ -17,10 +17,10 @@ use Rattle.fetch_refs.specs.declared.edit.RefLog.TheVariants.{AndReference, Only
 use Rattle.fetch_refs.specs.declared.error.RefError.{RefError}
 use Rattle.fetch_refs.specs.declared.target.Target.{Target}
 use Rattle.fetch_refs.specs.declared.target.Target.TheVariants as targets
-use Rattle.fetch_lines.specs.Mappings.{spec_at}
+use Rattle.fetch_map.specs.Mappings.{spec_at}
 use Rattle.fetch_lines.specs.References.{name_in, source_id}
-use Rattle.fetch_lines.specs.declared.listings.mapping.Mapping.{Mapping}
-use Rattle.fetch_lines.specs.declared.listings.mapping.RefMap.{RefMap}
+use Rattle.fetch_map.specs.declared.mapping.Mapping.{Mapping}
+use Rattle.fetch_map.specs.declared.mapping.RefMap.{RefMap}
 use Rattle.fetch_lines.specs.declared.listings.reference.Ref.{Ref}
 use Rattle.fetch_lines.specs.declared.listings.reference.Ref.TheVariants as refs
 use Rattle.fetch_init.specs.NamedRefs.{is_called, ref_named_in}

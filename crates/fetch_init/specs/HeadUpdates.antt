@@ -11,7 +11,7 @@ use Rattle.fetch_config.specs.Print.{text_of}
 use Rattle.fetch_refs.specs.Logs.{after}
 use Rattle.fetch_refs.specs.declared.edit.PackedRefs.TheVariants as places
 use Rattle.fetch_refs.specs.declared.edit.RefEdit.{RefEdit}
-use Rattle.fetch_lines.specs.declared.listings.mapping.RefMap.{RefMap}
+use Rattle.fetch_map.specs.declared.mapping.RefMap.{RefMap}
 use Rattle.fetch_remote.specs.Finding.{existing_in}
 use Rattle.fetch_remote.specs.Paths.{config_path}
 use Rattle.fetch_remote.specs.Remotes.{RemoteValue}

@@ -7,7 +7,7 @@ use Rattle.std.specs.Str.{bytes_eq}
 use Rattle.fetch_base.specs.declared.id.ObjectId.{ObjectId}
 use Rattle.fetch_specs.specs.Matches.{once, taken}
 use Rattle.fetch_lines.specs.References.{source_id, source_name}
-use Rattle.fetch_lines.specs.declared.listings.mapping.Mapping.{Mapping}
+use Rattle.fetch_map.specs.declared.mapping.Mapping.{Mapping}
 use Rattle.fetch_init.specs.declared.named_ref.NamedRef.{NamedRef}
 use Rattle.fetch_init.specs.declared.named_ref.RefNameError.{RefNameError}
 use Rattle.fetch_init.specs.declared.named_ref.RefNameError.TheVariants.{Missing, Ambiguous, NoMemory}

@@ -7,7 +7,7 @@ use Rattle.fetch_journal.specs.declared.entry.Entry.{Entry}
 use Rattle.fetch_journal.specs.declared.error.SharedError.{SharedError}
 use Rattle.fetch_journal.specs.declared.error.SharedError.TheVariants as errors
 use Rattle.fetch_specs.specs.declared.tags.Tags.{Tags}
-use Rattle.fetch_lines.specs.declared.listings.mapping.RefMap.{RefMap}
+use Rattle.fetch_map.specs.declared.mapping.RefMap.{RefMap}
 use Rattle.fetch_negotiate.specs.declared.algorithm.Shallow.{Shallow}
 use Rattle.fetch_negotiate.specs.Tips.{tips_of}
 use Rattle.fetch_negotiate.specs.Wants.{wants_of}

@@ -5,7 +5,6 @@ pub mod Lines
 pub mod Written
 pub mod SectionLaws
 pub mod LineLaws
-pub mod Mappings
 pub mod Texts
 pub mod Words
 pub mod Greetings

@@ -20,7 +20,6 @@ pub use lines::section::{LineError, line_in};
 pub use lines::text::without_line_feed;
 pub use lines::words::next_word;
 pub use lines::write::{length_digits, write_line, write_lines};
-pub use listings::mapping::{Mapping, RefMap, SpecIndex};
 pub use listings::reference::{Ref, Source};
 pub use peer::{Interrupt, Peer, SendFault};
 pub use requests::records::{FetchReply, Request};

@@ -1,4 +1,3 @@
-//! The references of a remote, and where they go.
+//! The references of a remote.
 
-pub mod mapping;
 pub mod reference;

@@ -6,8 +6,8 @@ use Rattle.std.specs.Option.{option_and_then}
 use Rattle.std.proofs.lemmas.Option.{slice_get_within}
 use Rattle.fetch_specs.specs.Specs.{Spec}
 use Rattle.fetch_refs.specs.declared.edit.RefEdit.{RefEdit}
-use Rattle.fetch_lines.specs.Mappings.{spec_at}
-use Rattle.fetch_lines.specs.declared.listings.mapping.Mapping.{Mapping}
+use Rattle.fetch_map.specs.Mappings.{spec_at}
+use Rattle.fetch_map.specs.declared.mapping.Mapping.{Mapping}
 use Rattle.fetch_serve.proofs.Reached.{keeps}
 use Rattle.fetch_update.specs.Accepted.{CarriesOut, EditsCarryOut, HasOneEach, edit_for, is_found}
 use Rattle.fetch_update.specs.Outcomes.{outcome_of}

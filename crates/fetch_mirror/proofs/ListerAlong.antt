@@ -11,7 +11,7 @@ use Rattle.fetch_lines.specs.RequestWords.{agent_is, agent_word, format_is, form
 use Rattle.fetch_lines.specs.Requests.{agent_text, detail_texts, kind_text, listing_lines, listing_word}
 use Rattle.fetch_lines.specs.Talks.{Talk}
 use Rattle.fetch_lines.specs.Written.{first_too_long}
-use Rattle.fetch_lines.specs.declared.listings.mapping.RefMap.{RefMap}
+use Rattle.fetch_map.specs.declared.mapping.RefMap.{RefMap}
 use Rattle.fetch_conversation.specs.Conversation.{Concludes}
 use Rattle.fetch_conversation.specs.ListStage.{ListedValue, ls_refs_stage, mapped, prefixes_asked, unsendable}
 use Rattle.fetch_conversation.specs.Served.{Follows, IsFresh}

@@ -9,7 +9,7 @@ use Rattle.fetch_specs.specs.Categories.{refs}
 use Rattle.fetch_specs.specs.Names.{is_full_name}
 use Rattle.fetch_replies.specs.NamesTold.{AreNamedOnce}
 use Rattle.fetch_lines.specs.References.{id_in, name_in}
-use Rattle.fetch_lines.specs.declared.listings.mapping.RefMap.{RefMap}
+use Rattle.fetch_map.specs.declared.mapping.RefMap.{RefMap}
 use Rattle.fetch_lines.specs.declared.listings.reference.Ref.{Ref}
 use Rattle.fetch_mirror.specs.Mirroring.{Asking, HasListed}
 use Rattle.fetch_mirror.specs.Naming.{inquiry_by, is_own, is_own_name, names_of, own_name}

@@ -9,9 +9,9 @@ use Rattle.fetch_specs.specs.Specs.{Spec}
 use Rattle.fetch_refs.specs.declared.edit.RefEdit.{RefEdit}
 use Rattle.fetch_refs.specs.declared.target.Target.{Target}
 use Rattle.fetch_refs.specs.declared.target.Target.TheVariants.{Object}
-use Rattle.fetch_lines.specs.Mappings.{spec_at}
-use Rattle.fetch_lines.specs.declared.listings.mapping.Mapping.{Mapping}
-use Rattle.fetch_lines.specs.declared.listings.mapping.SpecIndex.{SpecIndex}
+use Rattle.fetch_map.specs.Mappings.{spec_at}
+use Rattle.fetch_map.specs.declared.mapping.Mapping.{Mapping}
+use Rattle.fetch_map.specs.declared.mapping.SpecIndex.{SpecIndex}
 use Rattle.fetch_update.specs.Accepted.{is_found}
 use Rattle.fetch_update.specs.Accepting.{IsSent, IsWritable, KeepsTarget, is_accepting}
 use Rattle.fetch_update.specs.Outcomes.{outcome_of}

@@ -14,8 +14,8 @@ use Rattle.fetch_specs.specs.declared.tags.Tags.{Tags}
 use Rattle.fetch_specs.specs.declared.tags.Tags.TheVariants as tags
 use Rattle.fetch_lines.specs.References.{name_in}
 use Rattle.fetch_lines.specs.declared.greetings.handshake.Handshake.{Handshake}
-use Rattle.fetch_lines.specs.declared.listings.mapping.Mapping.{Mapping}
-use Rattle.fetch_lines.specs.declared.listings.mapping.RefMap.{RefMap}
+use Rattle.fetch_map.specs.declared.mapping.Mapping.{Mapping}
+use Rattle.fetch_map.specs.declared.mapping.RefMap.{RefMap}
 use Rattle.fetch_lines.specs.declared.listings.reference.Ref.{Ref}
 use Rattle.fetch_lines.specs.declared.listings.reference.Source.{Source}
 use Rattle.fetch_conversation.specs.ListStage.{LsRefsValue, ListedValue, all_specs, map_of, mapped, mapped_unless, with_tags}

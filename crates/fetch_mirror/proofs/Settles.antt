@@ -22,7 +22,7 @@ use Rattle.fetch_update.specs.Policy.{Policy, value_of}
 use Rattle.fetch_update.specs.Refusing.{Refuses}
 use Rattle.fetch_update.specs.declared.update.Error.{Error}
 use Rattle.fetch_update.specs.declared.update.Error.TheVariants as errors
-use Rattle.fetch_lines.specs.declared.listings.mapping.Mapping.{Mapping}
+use Rattle.fetch_map.specs.declared.mapping.Mapping.{Mapping}
 use Rattle.fetch_serve.specs.Depths.{depth_of}
 use Rattle.fetch_serve.specs.Packs.{pack_of, served_of}
 use Rattle.fetch_serve.specs.Servable.{IsServable}

@@ -16,8 +16,8 @@ use Rattle.fetch_specs.specs.Specs.{Spec}
 use Rattle.fetch_specs.specs.declared.tags.Tags.TheVariants as tags
 use Rattle.fetch_lines.specs.References.{source_id}
 use Rattle.fetch_lines.specs.ServerLines.{IsIdOf}
-use Rattle.fetch_lines.specs.declared.listings.mapping.Mapping.{Mapping}
-use Rattle.fetch_lines.specs.declared.listings.mapping.RefMap.{RefMap}
+use Rattle.fetch_map.specs.declared.mapping.Mapping.{Mapping}
+use Rattle.fetch_map.specs.declared.mapping.RefMap.{RefMap}
 use Rattle.fetch_negotiate.specs.Lists.{firsts}
 use Rattle.fetch_negotiate.specs.Wants.{want_in, wants_of}
 use Rattle.fetch_negotiate.specs.declared.algorithm.Shallow.TheVariants.{NoChange}

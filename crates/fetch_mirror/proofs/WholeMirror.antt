@@ -23,7 +23,7 @@ use Rattle.fetch_update.specs.Outcomes.{outcome_of}
 use Rattle.fetch_update.specs.Policy.{is_stored, value_of}
 use Rattle.fetch_update.specs.declared.update.Outcome.{Outcome as Updates}
 use Rattle.fetch_lines.specs.References.{source_id}
-use Rattle.fetch_lines.specs.declared.listings.mapping.Mapping.{Mapping}
+use Rattle.fetch_map.specs.declared.mapping.Mapping.{Mapping}
 use Rattle.fetch_conversation.specs.declared.conversing.Received.{Received}
 use Rattle.fetch_remote.specs.RepositoryValues.{RepositoryValue}
 use Rattle.fetch_remote.specs.Stages.{Told, terms_in}

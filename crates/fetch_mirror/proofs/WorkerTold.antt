@@ -34,8 +34,8 @@ use Rattle.fetch_lines.specs.Written.{first_too_long}
 use Rattle.fetch_lines.specs.declared.error.WireError.TheVariants as wire
 use Rattle.fetch_lines.specs.declared.greetings.handshake.Handshake.{Handshake}
 use Rattle.fetch_lines.specs.declared.lines.line.Line.{Line}
-use Rattle.fetch_lines.specs.declared.listings.mapping.Mapping.{Mapping}
-use Rattle.fetch_lines.specs.declared.listings.mapping.SpecIndex.TheVariants.{ExplicitInRemote}
+use Rattle.fetch_map.specs.declared.mapping.Mapping.{Mapping}
+use Rattle.fetch_map.specs.declared.mapping.SpecIndex.TheVariants.{ExplicitInRemote}
 use Rattle.fetch_lines.specs.declared.listings.reference.Ref.{Ref}
 use Rattle.fetch_replies.specs.declared.replies.reply.ReplyKind.TheVariants as await
 use Rattle.fetch_replies.specs.declared.replies.reply.ReplyError.TheVariants.{Short}

@@ -36,7 +36,7 @@ ghost use Rattle.fetch_lines.specs.Talks.{Talk, IsFront};
 ghost use Rattle.fetch_lines.specs.Written.{first_too_long, lines_text};
 ghost use Rattle.fetch_lines.specs.declared.greetings.handshake.Handshake.{Handshake};
 ghost use Rattle.fetch_lines.specs.declared.lines.line.Line.{Line};
-ghost use Rattle.fetch_lines.specs.declared.listings.mapping.Mapping.{Mapping};
+ghost use Rattle.fetch_map.specs.declared.mapping.Mapping.{Mapping};
 ghost use Rattle.fetch_lines.specs.declared.listings.reference.Ref.{Ref};
 ghost use Rattle.fetch_replies.specs.declared.replies.reply.ReplyKind.{ReplyKind};
 ghost use Rattle.fetch_replies.specs.declared.replies.reply.ReplyError.TheVariants.{Short, TooLong};

@@ -8,10 +8,10 @@ use Rattle.fetch_store.specs.Graph.{Graph}
 use Rattle.fetch_specs.specs.Specs.{Spec}
 use Rattle.fetch_specs.specs.Tagged.{is_tag_spec}
 use Rattle.fetch_specs.specs.declared.tags.Tags.{Tags}
-use Rattle.fetch_lines.specs.declared.listings.mapping.Mapping.{Mapping}
-use Rattle.fetch_lines.specs.declared.listings.mapping.RefMap.{RefMap}
-use Rattle.fetch_lines.specs.declared.listings.mapping.SpecIndex.{SpecIndex}
-use Rattle.fetch_lines.specs.declared.listings.mapping.SpecIndex.TheVariants.{ExplicitInRemote, Implicit}
+use Rattle.fetch_map.specs.declared.mapping.Mapping.{Mapping}
+use Rattle.fetch_map.specs.declared.mapping.RefMap.{RefMap}
+use Rattle.fetch_map.specs.declared.mapping.SpecIndex.{SpecIndex}
+use Rattle.fetch_map.specs.declared.mapping.SpecIndex.TheVariants.{ExplicitInRemote, Implicit}
 use Rattle.fetch_lines.specs.References.{source_id}
 use Rattle.fetch_negotiate.specs.declared.algorithm.Shallow.{Shallow}
 use Rattle.fetch_negotiate.specs.declared.algorithm.Shallow.TheVariants.{NoChange}

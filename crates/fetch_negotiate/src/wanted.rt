@@ -11,7 +11,7 @@ ghost use Rattle.fetch_negotiate.specs.Wants.{wants_of};
 use crate::algorithm::Shallow;
 use crate::once::each_once;
 use crate::request::is_included;
-use fetch_lines::{Mapping, RefMap, SpecIndex};
+use fetch_map::{Mapping, RefMap, SpecIndex};
 use fetch_specs::{RefSpec, Tags};
 use fetch_store::{NoMemory, ObjectId, Objects};
 use std::alloc::Global;

@@ -23,7 +23,7 @@ use Rattle.fetch_update.specs.declared.update.Error.{Error as UpdateError}
 use Rattle.fetch_update.specs.declared.update.Error.TheVariants as update_errors
 use Rattle.fetch_update.specs.declared.update.Outcome.{Outcome as Updates}
 use Rattle.fetch_update.specs.declared.worktrees.Worktree.{Worktree}
-use Rattle.fetch_lines.specs.declared.listings.mapping.RefMap.{RefMap}
+use Rattle.fetch_map.specs.declared.mapping.RefMap.{RefMap}
 use Rattle.fetch_conversation.specs.ListStage.{ListedValue}
 use Rattle.fetch_conversation.specs.declared.conversing.Received.{Received}
 use Rattle.fetch_conversation.specs.declared.fetch.Error.{Error}

@@ -11,8 +11,8 @@ use Rattle.fetch_update.specs.declared.worktrees.Worktree.{Worktree}
 use Rattle.fetch_update.proofs.Refused.{refused_with}
 use Rattle.fetch_lines.specs.Talks.{Talk, Talks}
 use Rattle.fetch_lines.specs.Written.{lines_text}
-use Rattle.fetch_lines.specs.declared.listings.mapping.Mapping.{Mapping}
-use Rattle.fetch_lines.specs.declared.listings.mapping.RefMap.{RefMap}
+use Rattle.fetch_map.specs.declared.mapping.Mapping.{Mapping}
+use Rattle.fetch_map.specs.declared.mapping.RefMap.{RefMap}
 use Rattle.fetch_conversation.specs.declared.conversing.Received.{Received}
 use Rattle.fetch_conversation.specs.Conversation.{map_refusal, sent_in, IsUnheard}
 use Rattle.fetch_remote.specs.Errors.{is_free, receiving}

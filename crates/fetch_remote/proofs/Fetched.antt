@@ -6,7 +6,7 @@ use Rattle.fetch_store.specs.Graph.{graph_of}
 use Rattle.fetch_base.specs.declared.id.ObjectId.{ObjectId}
 use Rattle.fetch_refs.specs.declared.edit.PackedRefs.{PackedRefs}
 use Rattle.fetch_refs.specs.declared.edit.RefEdit.{RefEdit}
-use Rattle.fetch_lines.specs.declared.listings.mapping.RefMap.{RefMap}
+use Rattle.fetch_map.specs.declared.mapping.RefMap.{RefMap}
 use Rattle.fetch_lines.specs.Talks.{Talk}
 use Rattle.fetch_lines.specs.Written.{lines_text}
 use Rattle.fetch_update.specs.declared.update.Outcome.{Outcome as Updates}

@@ -3,8 +3,8 @@ use Rattle.std.proofs.Common.{◌≡◌, true, false, List, None, Result, Ok, Er
 use Rattle.std.proofs.lemmas.Bool.{OnFalse_from}
 use Rattle.fetch_base.specs.Answers.{AnswersUnless}
 use Rattle.fetch_specs.specs.Specs.{Spec}
-use Rattle.fetch_lines.specs.declared.listings.mapping.Mapping.{Mapping}
-use Rattle.fetch_lines.specs.declared.listings.mapping.RefMap.{RefMap}
+use Rattle.fetch_map.specs.declared.mapping.Mapping.{Mapping}
+use Rattle.fetch_map.specs.declared.mapping.RefMap.{RefMap}
 use Rattle.fetch_update.specs.Outcomes.{outcome_of}
 use Rattle.fetch_update.specs.Policy.{Policy, is_memory}
 use Rattle.fetch_update.specs.Refusing.{Refuses}

@@ -8,7 +8,7 @@ use Rattle.fetch_store.proofs.Growth.{grows_self, grows-add_all}
 use Rattle.fetch_store.proofs.Honesty.{honest_at_once, wants_stored}
 use Rattle.fetch_store.proofs.Whole.{connects_none}
 use Rattle.fetch_negotiate.specs.Rounds.{haves_in}
-use Rattle.fetch_lines.specs.declared.listings.mapping.RefMap.{RefMap}
+use Rattle.fetch_map.specs.declared.mapping.RefMap.{RefMap}
 use Rattle.fetch_conversation.specs.declared.conversing.Received.{Received}
 use Rattle.fetch_remote.specs.Fetched.{objects_with, request_in}
 use Rattle.fetch_remote.specs.Form.{Given}

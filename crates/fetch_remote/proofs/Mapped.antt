@@ -14,11 +14,11 @@ use Rattle.fetch_specs.specs.declared.found.Match.{Match}
 use Rattle.fetch_specs.specs.declared.found.SourceRef.{SourceRef}
 use Rattle.fetch_specs.specs.declared.found.SourceRef.TheVariants as matched
 use Rattle.fetch_specs.proofs.Places.{each_mapping}
-use Rattle.fetch_lines.specs.Mappings.{spec_at}
+use Rattle.fetch_map.specs.Mappings.{spec_at}
 use Rattle.fetch_lines.specs.References.{name_in}
-use Rattle.fetch_lines.specs.declared.listings.mapping.Mapping.{Mapping}
-use Rattle.fetch_lines.specs.declared.listings.mapping.RefMap.{RefMap}
-use Rattle.fetch_lines.specs.declared.listings.mapping.SpecIndex.TheVariants.{ExplicitInRemote, Implicit}
+use Rattle.fetch_map.specs.declared.mapping.Mapping.{Mapping}
+use Rattle.fetch_map.specs.declared.mapping.RefMap.{RefMap}
+use Rattle.fetch_map.specs.declared.mapping.SpecIndex.TheVariants.{ExplicitInRemote, Implicit}
 use Rattle.fetch_lines.specs.declared.listings.reference.Ref.{Ref}
 use Rattle.fetch_lines.specs.declared.listings.reference.Source.{Source}
 use Rattle.fetch_lines.specs.declared.listings.reference.Source.TheVariants as sources

@@ -26,7 +26,7 @@ use Rattle.fetch_replies.specs.declared.replies.reply.ReplyError.{ReplyError}
 use Rattle.fetch_replies.specs.declared.replies.reply.ParsedReply.{ParsedReply}
 use Rattle.fetch_replies.specs.declared.replies.reply.ParsedReply.TheVariants as told
 use Rattle.fetch_lines.specs.declared.greetings.handshake.Handshake.{Handshake}
-use Rattle.fetch_lines.specs.declared.listings.mapping.RefMap.{RefMap}
+use Rattle.fetch_map.specs.declared.mapping.RefMap.{RefMap}
 use Rattle.fetch_conversation.specs.Conversation.{Conversation, ends, asks, asks_unless, asking, and_then, after_reply, answer_in, IsRefusedBy}
 use Rattle.fetch_conversation.specs.ConverseStage as converse
 use Rattle.fetch_conversation.specs.ConverseStage.{converse_stage, wanting, fetching, algorithm_in, received, rejected, result_unless, unpacked, is_unmapped, unmapped, unlike, unread_as, unfit, lacks, lacked, lacking, no_mapping, other_hash}

@@ -24,8 +24,8 @@ use Rattle.fetch_negotiate.specs.Wants.{is_tag_index}
 use Rattle.fetch_lines.specs.Talks.{Talk, Talks}
 use Rattle.fetch_lines.specs.Written.{lines_text}
 use Rattle.fetch_lines.specs.References.{source_id}
-use Rattle.fetch_lines.specs.declared.listings.mapping.Mapping.{Mapping}
-use Rattle.fetch_lines.specs.declared.listings.mapping.RefMap.{RefMap}
+use Rattle.fetch_map.specs.declared.mapping.Mapping.{Mapping}
+use Rattle.fetch_map.specs.declared.mapping.RefMap.{RefMap}
 use Rattle.fetch_conversation.specs.Conversation.{answer_in, IsAwaited}
 use Rattle.fetch_conversation.specs.ListStage.{ListedValue, all_specs, extra_specs}
 use Rattle.fetch_conversation.specs.Mapped.{ref_mappings}

@@ -7,7 +7,7 @@ use Rattle.fetch_update.specs.Policy.{Policy}
 use Rattle.fetch_update.specs.declared.update.Error.{Error as UpdateError}
 use Rattle.fetch_update.specs.declared.update.Outcome.{Outcome}
 use Rattle.fetch_update.specs.declared.worktrees.Worktree.{Worktree}
-use Rattle.fetch_lines.specs.declared.listings.mapping.RefMap.{RefMap}
+use Rattle.fetch_map.specs.declared.mapping.RefMap.{RefMap}
 use Rattle.fetch_conversation.specs.Errors.{fetch_of_update, is_worktree_fault}
 use Rattle.fetch_conversation.specs.declared.fetch.Error.{Error}
 use Rattle.fetch_conversation.specs.declared.fetch.Error.TheVariants as errors

@@ -3,7 +3,7 @@ use Rattle.std.specs.Prelude.{◌≡◌, ℕ, List, map}
 use Rattle.fetch_specs.specs.declared.found.Match.{Match}
 use Rattle.fetch_specs.specs.declared.found.SourceRef.{SourceRef}
 use Rattle.fetch_specs.specs.declared.found.SourceRef.TheVariants as matched
-use Rattle.fetch_lines.specs.declared.listings.mapping.Mapping.{Mapping}
+use Rattle.fetch_map.specs.declared.mapping.Mapping.{Mapping}
 use Rattle.fetch_lines.specs.declared.listings.reference.Source.{Source}
 use Rattle.fetch_lines.specs.declared.listings.reference.Source.TheVariants as sources
 use Rattle.fetch_lines.specs.References.{name_in}

@@ -8,7 +8,7 @@ use Rattle.fetch_negotiate.specs.Wants.{wants_of}
 use Rattle.fetch_negotiate.specs.declared.algorithm.Algorithm.{Algorithm}
 use Rattle.fetch_negotiate.specs.declared.algorithm.Algorithm.TheVariants as algorithms
 use Rattle.fetch_negotiate.specs.declared.algorithm.Shallow.{Shallow}
-use Rattle.fetch_lines.specs.declared.listings.mapping.RefMap.{RefMap}
+use Rattle.fetch_map.specs.declared.mapping.RefMap.{RefMap}
 use Rattle.fetch_conversation.specs.ConverseStage.{algorithm_in}
 use Rattle.fetch_conversation.specs.ListStage.{is_nil}
 use Rattle.fetch_conversation.specs.declared.conversing.View.{View}

@@ -6,7 +6,7 @@ use Rattle.fetch_specs.specs.declared.tags.Tags.{Tags}
 use Rattle.fetch_negotiate.specs.Tips.{tips_of}
 use Rattle.fetch_negotiate.specs.Wants.{wants_of}
 use Rattle.fetch_negotiate.specs.declared.algorithm.Shallow.{Shallow}
-use Rattle.fetch_lines.specs.declared.listings.mapping.RefMap.{RefMap}
+use Rattle.fetch_map.specs.declared.mapping.RefMap.{RefMap}
 use Rattle.fetch_conversation.specs.Conversation.{Conversation, ends, and_then, told_as}
 use Rattle.fetch_conversation.specs.ConverseStage.{converse_stage}
 use Rattle.fetch_conversation.specs.Exchange.{FetchArgumentsValue}

@@ -21,7 +21,7 @@ ghost use Rattle.fetch_update.specs.declared.update.Update.{Update};
 ghost use Rattle.fetch_update.specs.declared.worktrees.Worktree.{Worktree};
 ghost use Rattle.fetch_lines.specs.Talks.{Talk};
 ghost use Rattle.fetch_lines.specs.declared.greetings.handshake.Capability.{Capability};
-ghost use Rattle.fetch_lines.specs.declared.listings.mapping.RefMap.{RefMap};
+ghost use Rattle.fetch_map.specs.declared.mapping.RefMap.{RefMap};
 ghost use Rattle.fetch_lines.specs.declared.listings.reference.Ref.{Ref};
 ghost use Rattle.fetch_lines.specs.References.{name_in};
 ghost use Rattle.fetch_conversation.specs.Mapped.{ref_mappings};

@@ -5,7 +5,7 @@ use Rattle.fetch_base.specs.declared.id.ObjectId.{ObjectId}
 use Rattle.fetch_negotiate.specs.declared.algorithm.Shallow.{Shallow}
 use Rattle.fetch_conversation.specs.declared.conversing.Received.{Received}
 use Rattle.fetch_specs.specs.declared.tags.Tags.{Tags}
-use Rattle.fetch_lines.specs.declared.listings.mapping.RefMap.{RefMap}
+use Rattle.fetch_map.specs.declared.mapping.RefMap.{RefMap}
 use Rattle.fetch_remote.specs.RepositoryValues.{RepositoryValue}
 use Rattle.fetch_journal.specs.declared.entry.Entry.{Entry}
 use Rattle.fetch_journal.specs.declared.error.SharedError.{SharedError}

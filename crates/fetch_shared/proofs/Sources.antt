@@ -19,12 +19,12 @@ use Rattle.fetch_refs.specs.declared.edit.RefEdit.{RefEdit}
 use Rattle.fetch_refs.specs.declared.target.Target.TheVariants as targets
 use Rattle.fetch_negotiate.specs.Requests.{is_included}
 use Rattle.fetch_negotiate.specs.Wants.{is_tag_index}
-use Rattle.fetch_lines.specs.Mappings.{spec_at}
+use Rattle.fetch_map.specs.Mappings.{spec_at}
 use Rattle.fetch_lines.specs.References.{source_id}
-use Rattle.fetch_lines.specs.declared.listings.mapping.Mapping.{Mapping}
-use Rattle.fetch_lines.specs.declared.listings.mapping.RefMap.{RefMap}
-use Rattle.fetch_lines.specs.declared.listings.mapping.SpecIndex.{SpecIndex}
-use Rattle.fetch_lines.specs.declared.listings.mapping.SpecIndex.TheVariants as indices
+use Rattle.fetch_map.specs.declared.mapping.Mapping.{Mapping}
+use Rattle.fetch_map.specs.declared.mapping.RefMap.{RefMap}
+use Rattle.fetch_map.specs.declared.mapping.SpecIndex.{SpecIndex}
+use Rattle.fetch_map.specs.declared.mapping.SpecIndex.TheVariants as indices
 use Rattle.fetch_lines.specs.declared.listings.reference.Ref.{Ref}
 use Rattle.fetch_lines.specs.declared.listings.reference.Ref.TheVariants as remote
 use Rattle.fetch_lines.specs.declared.listings.reference.Source.{Source}

@@ -3,7 +3,7 @@
 use Rattle.std.specs.Prelude.{◌≡◌, ◌⊎◌, ℕ, Bool, true, false, List, ◌++◌, Option, Some, None, Ok, IfSome}
 use Rattle.fetch_update.specs.declared.worktrees.Worktree.{Worktree}
 use Rattle.fetch_lines.specs.Talks.{Talk}
-use Rattle.fetch_lines.specs.declared.listings.mapping.RefMap.{RefMap}
+use Rattle.fetch_map.specs.declared.mapping.RefMap.{RefMap}
 use Rattle.fetch_conversation.specs.Conversation.{answer_in, HasExchanged, IsUnheard}
 use Rattle.fetch_conversation.specs.ListStage.{ListedValue}
 use Rattle.fetch_remote.specs.Errors as remote

@@ -1,8 +1,8 @@
 -- Verdicts, one after another.
 use Rattle.std.proofs.Common.{◌≡◌, ℕ, suc, ◌+◌, ◌<◌, List, [], ◌∷◌, ◌++◌, length, get_or, drop, drop-cons, add-one, Result, Ok, Err, refl, sym, ap, ◌∙◌, append_assoc}
 use Rattle.fetch_specs.specs.Specs.{Spec}
-use Rattle.fetch_lines.specs.Mappings.{spec_at}
-use Rattle.fetch_lines.specs.declared.listings.mapping.Mapping.{Mapping}
+use Rattle.fetch_map.specs.Mappings.{spec_at}
+use Rattle.fetch_map.specs.declared.mapping.Mapping.{Mapping}
 use Rattle.fetch_update.specs.declared.update.Error.{Error}
 use Rattle.fetch_update.specs.declared.verdict.Verdict.{Verdict}
 use Rattle.fetch_update.specs.Policy.{Policy}

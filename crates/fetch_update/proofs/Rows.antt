@@ -21,7 +21,7 @@ use Rattle.fetch_refs.specs.declared.error.RefError.TheVariants as ref_errors
 use Rattle.fetch_refs.specs.declared.target.Target.{Target}
 use Rattle.fetch_refs.specs.declared.target.Target.TheVariants.{Object, Symbolic}
 use Rattle.fetch_lines.specs.References.{source_target}
-use Rattle.fetch_lines.specs.declared.listings.mapping.Mapping.{Mapping}
+use Rattle.fetch_map.specs.declared.mapping.Mapping.{Mapping}
 use Rattle.fetch_update.specs.declared.mode.Mode.{Mode}
 use Rattle.fetch_update.specs.declared.mode.Mode.TheVariants as modes
 use Rattle.fetch_update.specs.declared.update.Error.{Error}

@@ -10,7 +10,7 @@ use Rattle.fetch_refs.specs.declared.edit.RefEdit.{RefEdit}
 use Rattle.fetch_refs.specs.declared.edit.RefLog.{RefLog}
 use Rattle.fetch_refs.specs.declared.edit.RefLog.TheVariants.{AndReference, Only}
 use Rattle.fetch_refs.specs.declared.target.Target.{Target}
-use Rattle.fetch_lines.specs.declared.listings.mapping.Mapping.{Mapping}
+use Rattle.fetch_map.specs.declared.mapping.Mapping.{Mapping}
 use Rattle.fetch_update.specs.declared.update.Error.{Error}
 use Rattle.fetch_update.specs.declared.verdict.Verdict.{Verdict}
 use Rattle.fetch_update.specs.Policy.{Policy, value_of, verdict_of}

@@ -5,8 +5,8 @@ use Rattle.std.specs.List.{slice_get}
 use Rattle.std.specs.Option.{option_and_then, option_copied}
 use Rattle.fetch_specs.specs.Specs.{Spec}
 use Rattle.fetch_refs.specs.declared.edit.RefEdit.{RefEdit}
-use Rattle.fetch_lines.specs.Mappings.{spec_at}
-use Rattle.fetch_lines.specs.declared.listings.mapping.Mapping.{Mapping}
+use Rattle.fetch_map.specs.Mappings.{spec_at}
+use Rattle.fetch_map.specs.declared.mapping.Mapping.{Mapping}
 use Rattle.fetch_update.specs.declared.pairs.MappingUpdates.{MappingUpdates}
 use Rattle.fetch_update.specs.declared.update.Update.{Update}
 

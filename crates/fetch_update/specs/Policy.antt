@@ -31,7 +31,7 @@ use Rattle.fetch_refs.specs.Names.{Names}
 use Rattle.fetch_refs.specs.Targets.{seen}
 use Rattle.fetch_refs.specs.Peeled.{peeled}
 use Rattle.fetch_lines.specs.References.{source_target}
-use Rattle.fetch_lines.specs.declared.listings.mapping.Mapping.{Mapping}
+use Rattle.fetch_map.specs.declared.mapping.Mapping.{Mapping}
 use Rattle.fetch_lines.specs.declared.listings.reference.Ref.{Ref}
 use Rattle.fetch_lines.specs.declared.listings.reference.Ref.TheVariants as remote
 use Rattle.fetch_lines.specs.declared.listings.reference.Source.{Source}

@@ -9,8 +9,8 @@ use Rattle.fetch_refs.specs.declared.error.RefError.{RefError}
 use Rattle.fetch_refs.specs.declared.error.RefError.TheVariants.{Unborn}
 use Rattle.fetch_refs.specs.declared.target.Target.{Target}
 use Rattle.fetch_refs.specs.declared.target.Target.TheVariants.{Symbolic}
-use Rattle.fetch_lines.specs.Mappings.{spec_at}
-use Rattle.fetch_lines.specs.declared.listings.mapping.Mapping.{Mapping}
+use Rattle.fetch_map.specs.Mappings.{spec_at}
+use Rattle.fetch_map.specs.declared.mapping.Mapping.{Mapping}
 use Rattle.fetch_update.specs.declared.update.Error.{Error}
 use Rattle.fetch_update.specs.declared.update.Error.TheVariants as errors
 use Rattle.fetch_update.specs.Accepting.{IsTaken, Stands, IsUnborn, HasIds}

@@ -9,7 +9,7 @@ use Rattle.fetch_refs.specs.declared.edit.LogChange.{LogChange}
 use Rattle.fetch_refs.specs.declared.edit.RefEdit.{RefEdit}
 use Rattle.fetch_refs.specs.declared.edit.RefLog.TheVariants.{AndReference}
 use Rattle.fetch_refs.specs.declared.target.Target.TheVariants.{Object, Symbolic}
-use Rattle.fetch_lines.specs.declared.listings.mapping.Mapping.{Mapping}
+use Rattle.fetch_map.specs.declared.mapping.Mapping.{Mapping}
 use Rattle.fetch_update.specs.declared.mode.TypeChange.TheVariants.{SymbolicToDirect, DirectToSymbolic}
 use Rattle.fetch_update.specs.declared.update.Outcome.{Outcome}
 use Rattle.fetch_update.specs.declared.update.Update.{Update}

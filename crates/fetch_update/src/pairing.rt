@@ -8,7 +8,7 @@ ghost use Rattle.fetch_update.specs.Pairs.{left, shown, pairs_of};
 
 use crate::pairs::MappingUpdates;
 use crate::update::{Outcome, Update};
-use fetch_lines::Mapping;
+use fetch_map::Mapping;
 use fetch_refs::RefEdit;
 use fetch_specs::RefSpec;
 

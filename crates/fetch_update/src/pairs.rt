@@ -3,7 +3,7 @@
 ghost use Rattle.std.specs.Prelude.{◌<◌, length, All};
 
 use crate::update::Update;
-use fetch_lines::Mapping;
+use fetch_map::Mapping;
 use fetch_refs::RefEdit;
 use fetch_specs::RefSpec;
 

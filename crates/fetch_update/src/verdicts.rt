@@ -9,7 +9,7 @@ use crate::judge::Judge;
 use crate::judging::judge_mapping;
 use crate::update::Error;
 use crate::verdict::Verdict;
-use fetch_lines::Mapping;
+use fetch_map::Mapping;
 use fetch_specs::RefSpec;
 use fetch_store::{NoMemory, Objects};
 

@@ -7,8 +7,8 @@ use Rattle.fetch_specs.specs.declared.conflict.Conflict.{Conflict}
 use Rattle.fetch_lines.specs.References.{name_in}
 use Rattle.fetch_wire.specs.SessionStates.{SessionState}
 use Rattle.fetch_lines.specs.declared.greetings.handshake.Handshake.{Handshake}
-use Rattle.fetch_lines.specs.declared.listings.mapping.Mapping.{Mapping}
-use Rattle.fetch_lines.specs.declared.listings.mapping.RefMap.{RefMap}
+use Rattle.fetch_map.specs.declared.mapping.Mapping.{Mapping}
+use Rattle.fetch_map.specs.declared.mapping.RefMap.{RefMap}
 use Rattle.fetch_lines.specs.declared.listings.reference.Ref.{Ref}
 use Rattle.fetch_conversation.specs.Errors.{is_free_listing, is_transport, is_interrupted, prepare_of}
 use Rattle.fetch_conversation.specs.Listing.{TellsConflicts, found_in}

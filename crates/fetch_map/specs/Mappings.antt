@@ -1,8 +1,8 @@
 -- Which refspec made a mapping.
 use Rattle.std.specs.Prelude.{List, Option, slice_get}
 use Rattle.fetch_specs.specs.Specs.{Spec}
-use Rattle.fetch_lines.specs.declared.listings.mapping.SpecIndex.{SpecIndex}
-use Rattle.fetch_lines.specs.declared.listings.mapping.SpecIndex.TheVariants.{ExplicitInRemote, Implicit}
+use Rattle.fetch_map.specs.declared.mapping.SpecIndex.{SpecIndex}
+use Rattle.fetch_map.specs.declared.mapping.SpecIndex.TheVariants.{ExplicitInRemote, Implicit}
 
 -- the refspec at this index, of the remote's or of the extra ones
 abbrev pub spec_at : SpecIndex → List Spec → List Spec → Option Spec

@@ -2,10 +2,10 @@
 
 ghost use Rattle.std.specs.Prelude.{◌≡◌, IfOk};
 ghost use Rattle.std.specs.Option.{option_copied};
-ghost use Rattle.fetch_lines.specs.Mappings.{spec_at};
+ghost use Rattle.fetch_map.specs.Mappings.{spec_at};
 
-use crate::listings::reference::{Ref, Source};
 use fetch_base::{Kind, List, NoMemory, Text, TryClone};
+use fetch_lines::{Ref, Source};
 use fetch_specs::RefSpec;
 
 /// Which refspec made a mapping: one of the remote's, or one of the extra ones.
