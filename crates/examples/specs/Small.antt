@@ -1,6 +1,6 @@
 -- Objects that are small enough for an example.
 use Rattle.std.specs.Prelude.{Bool, length, nat_le}
-use Rattle.fetch_store.specs.Objects.{Stored}
+use Rattle.fetch_objects.specs.Objects.{Stored}
 
 -- at most a thousand bytes
 abbrev pub is_small : Stored → Bool

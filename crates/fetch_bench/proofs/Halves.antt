@@ -10,7 +10,7 @@ use Rattle.hex.proofs.HexLemmas.{length-encode_with}
 use Rattle.fetch_base.specs.Hashing.{header}
 use Rattle.fetch_base.specs.Digits.{hex_of}
 use Rattle.fetch_base.specs.Id.{bytes_of}
-use Rattle.fetch_store.specs.Objects.{Stored}
+use Rattle.fetch_objects.specs.Objects.{Stored}
 use Rattle.fetch_store.specs.Stores.{AreOf, Entries}
 use Rattle.fetch_base.specs.declared.id.Kind.TheVariants.{Sha1}
 use Rattle.fetch_base.specs.declared.id.ObjectId.{ObjectId}
@@ -22,7 +22,7 @@ use Rattle.fetch_bench.specs.Commits.{under_its_id, signature, text_of, commit_a
 use Rattle.fetch_bench.specs.Served.{branches, stream_of}
 use Rattle.fetch_bench.specs.Generated.{second_half, server_stream}
 use Rattle.fetch_bench.proofs.Texts.{parent_lines, text_is}
-use Rattle.fetch_store.specs.Texts.{line}
+use Rattle.fetch_objects.specs.Texts.{line}
 
 range_joined : (a m k : ℕ) → range_with_len a (m + k) ≡ range_with_len a m ++ range_with_len (a + m) k
 range_joined a zero k = let none : zero + k ≡ k = omega arith in let same : a + zero ≡ a = omega arith in rw (none, same) refl

@@ -2,8 +2,8 @@
 use Rattle.std.proofs.Common.{◌≡◌, ℕ, List, [], ◌∷◌, ◌++◌, codes, decimal, Option, refl, ap, sym, ◌∙◌, append_assoc}
 use Rattle.std.specs.Prelude.{option_to_list, option_map}
 use Rattle.std.specs.List.{flat_map}
-use Rattle.fetch_store.specs.CommitTexts.{commit_text, parent_line}
-use Rattle.fetch_store.specs.Texts.{line}
+use Rattle.fetch_objects.specs.CommitTexts.{commit_text, parent_line}
+use Rattle.fetch_objects.specs.Texts.{line}
 use Rattle.fetch_base.specs.declared.id.ObjectId.{ObjectId}
 use Rattle.fetch_base.specs.Digits.{hex_of}
 use Rattle.fetch_bench.specs.Commits.{signature, text_of, tree_id}

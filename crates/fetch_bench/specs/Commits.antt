@@ -1,10 +1,10 @@
 -- A line of commits over the empty tree, one after the other. They are told by how many stand before them.
 use Rattle.std.specs.Prelude.{ℕ, zero, suc, ◌+◌, List, [], ◌∷◌, ◌++◌, map, codes, decimal, Option, Some, None, option_to_list, option_map}
 use Rattle.std.specs.List.{range_with_len}
-use Rattle.fetch_store.specs.CommitTexts.{CommitParts, commit_text}
+use Rattle.fetch_objects.specs.CommitTexts.{CommitParts, commit_text}
 use Rattle.fetch_base.specs.Hashing.{id_of}
 use Rattle.fetch_base.specs.Digits.{hex_of}
-use Rattle.fetch_store.specs.Objects.{Stored}
+use Rattle.fetch_objects.specs.Objects.{Stored}
 use Rattle.fetch_store.specs.Stores.{Entries}
 use Rattle.fetch_base.specs.declared.id.Kind.TheVariants.{Sha1}
 use Rattle.fetch_base.specs.declared.id.ObjectId.{ObjectId}

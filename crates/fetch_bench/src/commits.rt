@@ -3,7 +3,7 @@
 ghost use Rattle.std.specs.Prelude.{◌≡◌, ◌≤◌, ◌+◌, ◌++◌, ◌∷◌, [], map, IfOk, OnOk, option_map};
 ghost use Rattle.std.specs.List.{flat_map};
 ghost use Rattle.std.specs.Option.{option_copied, option_to_list};
-ghost use Rattle.fetch_store.specs.CommitTexts.{parent_line};
+ghost use Rattle.fetch_objects.specs.CommitTexts.{parent_line};
 ghost use Rattle.fetch_base.specs.Digits.{hex_of};
 ghost use Rattle.fetch_bench.specs.Commits as spec;
 

@@ -10,8 +10,8 @@ use Rattle.hex.specs.Hex.{encode_with}
 use Rattle.fetch_base.specs.Digits.{hex_of}
 use Rattle.fetch_base.specs.Hashing.{digest}
 use Rattle.fetch_base.specs.Id.{bytes_of}
-use Rattle.fetch_store.specs.Objects.{Stored}
-use Rattle.fetch_store.specs.Texts.{line}
+use Rattle.fetch_objects.specs.Objects.{Stored}
+use Rattle.fetch_objects.specs.Texts.{line}
 use Rattle.fetch_base.specs.declared.id.Kind.TheVariants.{Sha1}
 use Rattle.fetch_base.specs.declared.id.ObjectId.{ObjectId}
 use Rattle.fetch_base.specs.declared.object_kind.ObjectKind.TheVariants.{Tree}

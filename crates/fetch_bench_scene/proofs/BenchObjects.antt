@@ -17,20 +17,20 @@ use Rattle.hex.specs.Hex.{IsBytes, lower_digits}
 use Rattle.hex.proofs.HexLemmas.{length-encode_with, decode_sized-encode_lower, IsOk-decode_sized}
 use Rattle.sha1.specs.Sha1.{sha1, digest_bytes}
 use Rattle.fetch_store.specs.Collisions.{HasDistinctIds}
-use Rattle.fetch_store.specs.CommitTexts.{IsCommit}
+use Rattle.fetch_objects.specs.CommitTexts.{IsCommit}
 use Rattle.fetch_base.specs.Digits.{hex_of}
 use Rattle.fetch_base.specs.Hashing.{id_of}
 use Rattle.fetch_base.specs.Id.{bytes_of, id_in_hex}
 use Rattle.fetch_base.specs.Lines.{IsWithout}
-use Rattle.fetch_store.specs.Objects.{Stored, IsObject, reading}
+use Rattle.fetch_objects.specs.Objects.{Stored, IsObject, reading}
 use Rattle.fetch_base.specs.Scan.{is_decimal}
 use Rattle.fetch_store.specs.Stores.{Entries, collision}
-use Rattle.fetch_store.specs.Texts.{IsHexId}
+use Rattle.fetch_objects.specs.Texts.{IsHexId}
 use Rattle.fetch_base.specs.declared.id.Kind.TheVariants.{Sha1}
 use Rattle.fetch_base.specs.declared.id.ObjectId.{ObjectId}
 use Rattle.fetch_base.specs.declared.object_kind.ObjectKind.{ObjectKind}
 use Rattle.fetch_base.specs.declared.object_kind.ObjectKind.TheVariants.{Commit, Tree}
-use Rattle.fetch_store.proofs.CommitTexts.{decimal_without, commits_are_texts}
+use Rattle.fetch_objects.proofs.CommitTexts.{decimal_without, commits_are_texts}
 use Rattle.fetch_base.proofs.Words.{both_without}
 use Rattle.fetch_base.proofs.Digests.{length-digest}
 use Rattle.fetch_pack.specs.Packs.{entries, IsPack}

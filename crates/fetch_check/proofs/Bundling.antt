@@ -14,7 +14,7 @@ use Rattle.fetch_base.specs.declared.id.ObjectId.{ObjectId}
 use Rattle.fetch_store.specs.declared.missing.Missing.{Missing}
 use Rattle.fetch_store.specs.Borders.{IdSet, ids_of, set_of}
 use Rattle.fetch_store.specs.Closed.{Holding, IsStored}
-use Rattle.fetch_store.specs.Objects.{Stored}
+use Rattle.fetch_objects.specs.Objects.{Stored}
 use Rattle.fetch_store.specs.Stores.{ObjectMap}
 use Rattle.fetch_base.specs.Id.{id_cmp}
 use Rattle.fetch_store.proofs.Borders.{ids_of-set}

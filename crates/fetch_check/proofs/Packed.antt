@@ -7,7 +7,7 @@ use Rattle.std.proofs.lemmas.List.{length-append, length-map}
 use Rattle.fetch_base.specs.declared.id.Kind.{Kind}
 use Rattle.fetch_base.specs.declared.id.ObjectId.{ObjectId}
 use Rattle.fetch_base.specs.Hashing.{digest}
-use Rattle.fetch_store.specs.Objects.{Stored}
+use Rattle.fetch_objects.specs.Objects.{Stored}
 use Rattle.fetch_store.specs.Stores.{Entries}
 use Rattle.fetch_pack.specs.declared.error.PackError.{PackError}
 use Rattle.fetch_pack.specs.declared.error.PackError.TheVariants as packs

@@ -18,8 +18,8 @@ use Rattle.fetch_base.specs.declared.object_kind.ObjectKind.{ObjectKind}
 use Rattle.fetch_base.specs.declared.object_kind.ObjectKind.TheVariants as kinds
 use Rattle.fetch_store.specs.Borders.{IdSet, ids_of, set_of}
 use Rattle.fetch_store.specs.Closed.{Holding, IsClosed, IsStored, is_commit, IsWalk, Reached, holding, links_within, links, others}
-use Rattle.fetch_store.specs.Graph.{Node, graph_of, node_of, target_of}
-use Rattle.fetch_store.specs.Objects.{Stored}
+use Rattle.fetch_store.specs.Graph.{Node, graph_of, node_of}
+use Rattle.fetch_objects.specs.Objects.{target_of, Stored}
 use Rattle.fetch_base.specs.Kinds.{is_kind}
 use Rattle.fetch_store.specs.Stores.{ObjectMap, map_of}
 use Rattle.fetch_base.specs.Id.{id_cmp}

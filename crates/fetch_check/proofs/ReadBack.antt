@@ -21,7 +21,7 @@ use Rattle.fetch_base.specs.Digits.{hex_of}
 use Rattle.fetch_base.specs.Hashing.{digest}
 use Rattle.fetch_base.specs.Id.{byte_len, id_of_bytes, id_cmp}
 use Rattle.fetch_store.specs.Missing.{unclosed}
-use Rattle.fetch_store.specs.Objects.{Stored}
+use Rattle.fetch_objects.specs.Objects.{Stored}
 use Rattle.fetch_store.specs.Stores.{Entries}
 use Rattle.fetch_store.proofs.Borders.{ids_of-set}
 use Rattle.fetch_store.proofs.Unclosed.{none_closed}

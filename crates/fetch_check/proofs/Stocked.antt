@@ -4,7 +4,7 @@ use Rattle.std.specs.FinMap as finmap
 use Rattle.std.specs.List.Sorted.{IsStrictlySortedBy}
 use Rattle.fetch_base.specs.declared.id.Kind.{Kind}
 use Rattle.fetch_base.specs.declared.id.ObjectId.{ObjectId}
-use Rattle.fetch_store.specs.Objects.{Stored}
+use Rattle.fetch_objects.specs.Objects.{Stored}
 use Rattle.fetch_store.specs.Stores.{AreOf, Entries, add_all, collision, first_some, map_of}
 use Rattle.fetch_base.specs.Id.{id_cmp}
 use Rattle.fetch_store.proofs.Additions.{get-add_all}

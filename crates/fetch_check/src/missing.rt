@@ -5,7 +5,7 @@ ghost use Rattle.std.specs.FinMap as map;
 ghost use Rattle.fetch_store.specs.Closed as closed;
 ghost use Rattle.fetch_store.specs.Closed.{holding, is_commit};
 ghost use Rattle.fetch_store.specs.Missing as told;
-ghost use Rattle.fetch_store.specs.References.{ids_left, seen};
+ghost use Rattle.fetch_objects.specs.References.{ids_left, seen};
 ghost use Rattle.fetch_check.specs.Pairs.{links_of, pairs_of, with_pairs};
 ghost use Rattle.fetch_check.specs.Finding.{missing_pairs};
 

@@ -5,7 +5,7 @@ ghost use Rattle.std.specs.FinMap as map;
 ghost use Rattle.std.specs.List.Sorted.{IsStrictlySortedBy};
 ghost use Rattle.std.specs.Ordering.{is_lt};
 ghost use Rattle.fetch_store.specs.Closed.{IsClosed, holding};
-ghost use Rattle.fetch_store.specs.References.{seen};
+ghost use Rattle.fetch_objects.specs.References.{seen};
 ghost use Rattle.fetch_base.specs.Id.{id_cmp};
 ghost use Rattle.fetch_check.specs.Finding.{AreAllReached, IsWholeIn, broken_of};
 

@@ -8,7 +8,7 @@ use Rattle.fetch_base.specs.declared.id.ObjectId.{ObjectId}
 use Rattle.fetch_store.specs.Borders.{set_of}
 use Rattle.fetch_store.specs.Closed.{IsStored, Grows}
 use Rattle.fetch_base.specs.Hashing.{id_of}
-use Rattle.fetch_store.specs.Objects.{Stored}
+use Rattle.fetch_objects.specs.Objects.{Stored}
 use Rattle.fetch_store.specs.Stores.{ObjectMap}
 use Rattle.fetch_store.proofs.Growth.{added_cases}
 use Rattle.fetch_base.proofs.Ids.{id_cmp_total, id_cmp_exact}

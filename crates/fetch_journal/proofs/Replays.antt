@@ -6,7 +6,7 @@ use Rattle.std.specs.FinSet as set
 use Rattle.fetch_base.specs.declared.id.ObjectId.{ObjectId}
 use Rattle.fetch_store.specs.Borders.{set_of, merged}
 use Rattle.fetch_store.specs.Honest.{Pack}
-use Rattle.fetch_store.specs.Objects.{Stored}
+use Rattle.fetch_objects.specs.Objects.{Stored}
 use Rattle.fetch_store.specs.Stores.{ObjectMap, Entries, add_all, first_some}
 use Rattle.fetch_base.specs.Id.{id_cmp}
 use Rattle.fetch_store.proofs.Additions.{get-add_all}

@@ -3,7 +3,7 @@ use Rattle.std.specs.Prelude.{◌≡◌, ℕ, zero, suc, Bool, true, false, ◌�
 use Rattle.std.proofs.Common.{inl, inr}
 use Rattle.std.specs.Coded.{Coded, code_by, coded_ℕ, coded_bool, coded_list, coded×, coded⊎}
 use Rattle.fetch_base.specs.declared.id.ObjectId.{ObjectId}
-use Rattle.fetch_store.specs.Codes.{coded_id}
+use Rattle.fetch_objects.specs.Codes.{coded_id}
 use Rattle.fetch_refs.specs.declared.edit.Change.{Change}
 use Rattle.fetch_refs.specs.declared.edit.Change.TheVariants.{Update, Delete}
 use Rattle.fetch_refs.specs.declared.edit.LogChange.{LogChange}

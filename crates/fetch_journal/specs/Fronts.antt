@@ -5,7 +5,7 @@ use Rattle.fetch_base.specs.declared.id.Kind.{Kind}
 use Rattle.fetch_base.specs.declared.id.ObjectId.{ObjectId}
 use Rattle.fetch_store.specs.Closed.{IsClosed, AreAllOf, Grows}
 use Rattle.fetch_base.specs.Hashing.{id_of}
-use Rattle.fetch_store.specs.Objects.{Stored}
+use Rattle.fetch_objects.specs.Objects.{Stored}
 use Rattle.fetch_store.specs.Stores.{ObjectMap, AreOf}
 use Rattle.fetch_pack.specs.Once.{AreNamed}
 use Rattle.fetch_remote.specs.RepositoryValues.{RepositoryValue}

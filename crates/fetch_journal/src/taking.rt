@@ -4,7 +4,7 @@ ghost use Rattle.std.specs.Prelude.{◌≡◌, IfOk, None, OnErr, OnOk, map};
 ghost use Rattle.fetch_base.specs.Answers.{RefusesUnless};
 ghost use Rattle.fetch_store.specs.Borders as borders;
 ghost use Rattle.fetch_store.specs.Closed.{holding};
-ghost use Rattle.fetch_store.specs.References.{pack_of};
+ghost use Rattle.fetch_store.specs.Honest.{pack_of};
 ghost use Rattle.fetch_store.specs.Stores.{AreOf, collision};
 ghost use Rattle.fetch_remote.specs.Repositories.{with_pack};
 ghost use Rattle.fetch_journal.specs.Machine.{take_refusal};

@@ -8,7 +8,7 @@ use Rattle.fetch_store.specs.Collisions.{IsFirstToDiffer}
 use Rattle.fetch_store.specs.Graph.{graph_of}
 use Rattle.fetch_store.specs.Honest.{Pack}
 use Rattle.fetch_store.specs.Missing.{missing}
-use Rattle.fetch_store.specs.Objects.{Stored}
+use Rattle.fetch_objects.specs.Objects.{Stored}
 use Rattle.fetch_store.specs.Stores.{Entries, collision}
 use Rattle.fetch_base.specs.Id.{id_cmp}
 use Rattle.fetch_base.specs.declared.id.ObjectId.{ObjectId}

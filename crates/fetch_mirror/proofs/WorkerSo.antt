@@ -4,7 +4,7 @@ use Rattle.std.specs.Prelude.{is_some, option_map, slice_get}
 use Rattle.std.specs.FinMap as finmap
 use Rattle.std.specs.FinSet as set
 use Rattle.fetch_store.specs.Graph.{Node, node_of}
-use Rattle.fetch_store.specs.Objects.{Stored}
+use Rattle.fetch_objects.specs.Objects.{Stored}
 use Rattle.fetch_store.specs.Closed.{IsStored}
 use Rattle.fetch_base.specs.declared.id.ObjectId.{ObjectId}
 use Rattle.fetch_store.proofs.Graphs.{get-graph_of}

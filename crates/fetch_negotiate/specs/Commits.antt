@@ -7,7 +7,7 @@ use Rattle.std.specs.Option.{option_and_then, option_map_or}
 use Rattle.std.specs.Ordering.{eq_by_cmp}
 use Rattle.fetch_base.specs.declared.id.ObjectId.{ObjectId}
 use Rattle.fetch_base.specs.declared.object_kind.ObjectKind.TheVariants as objects
-use Rattle.fetch_store.specs.Codes.{coded_id}
+use Rattle.fetch_objects.specs.Codes.{coded_id}
 use Rattle.fetch_store.specs.Graph.{Graph, Node}
 use Rattle.fetch_base.specs.Kinds.{is_kind}
 use Rattle.fetch_base.specs.Id.{id_cmp}

@@ -4,7 +4,7 @@ use Rattle.std.specs.Coded.{Coded, code_by, coded_list, coded×}
 use Rattle.std.specs.FinMap as map
 use Rattle.std.specs.FinSet as set
 use Rattle.fetch_base.specs.declared.id.ObjectId.{ObjectId}
-use Rattle.fetch_store.specs.Codes.{coded_id}
+use Rattle.fetch_objects.specs.Codes.{coded_id}
 use Rattle.fetch_base.specs.Id.{id_cmp}
 use Rattle.fetch_negotiate.specs.Commits.{Known, coded_known}
 use Rattle.fetch_negotiate.specs.Haves.{Negotiation}

@@ -11,7 +11,7 @@ use Rattle.std.proofs.lemmas.List.{append-nil, append_assoc, length-append, get_
 use Rattle.std.proofs.Math.Seq.{get_or-append_seam, take-append_seam}
 use Rattle.fetch_base.specs.declared.id.ObjectId.{ObjectId}
 use Rattle.fetch_base.specs.contracts.id.ObjectIdOrd.TheImpl as order
-use Rattle.fetch_store.specs.Objects.{Stored, has_same_text}
+use Rattle.fetch_objects.specs.Objects.{Stored, has_same_text}
 use Rattle.fetch_store.specs.Collisions.{HasDistinctIds}
 use Rattle.fetch_store.specs.Stores.{Entries, ObjectMap, map_of, add, clashes, collision}
 use Rattle.fetch_base.specs.Id.{id_cmp}

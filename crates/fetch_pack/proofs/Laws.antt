@@ -13,7 +13,7 @@ use Rattle.fetch_base.specs.declared.id.Kind.TheVariants as kinds
 use Rattle.fetch_base.specs.declared.id.ObjectId.{ObjectId}
 use Rattle.fetch_base.specs.Id.{byte_len, id_of_bytes, bytes_of, kind_of, id_cmp}
 use Rattle.fetch_base.specs.Hashing.{digest, id_of}
-use Rattle.fetch_store.specs.Objects.{Stored, IsObject, is_object}
+use Rattle.fetch_objects.specs.Objects.{Stored, IsObject, is_object}
 use Rattle.fetch_store.specs.Stores.{Entries, collision}
 use Rattle.fetch_base.proofs.Ids.{id_cmp_exact}
 use Rattle.fetch_store.proofs.Finds.{ties}

@@ -12,7 +12,7 @@ use Rattle.fetch_base.specs.declared.id.Kind.{Kind}
 use Rattle.fetch_base.specs.declared.id.ObjectId.{ObjectId}
 use Rattle.fetch_base.specs.Id.{byte_len, id_of_bytes, bytes_of, kind_of}
 use Rattle.fetch_base.specs.Hashing.{digest, id_of}
-use Rattle.fetch_store.specs.Objects.{IsObject, is_object}
+use Rattle.fetch_objects.specs.Objects.{IsObject, is_object}
 use Rattle.fetch_store.specs.Stores.{Entries, collision}
 use Rattle.fetch_store.proofs.Finds.{ties}
 use Rattle.fetch_base.proofs.Digests.{bytes-id}

@@ -2,7 +2,7 @@
 use Rattle.std.specs.Prelude.{◌≡◌, map, List, ◌++◌, Contains}
 use Rattle.fetch_base.specs.declared.id.ObjectId.{ObjectId}
 use Rattle.fetch_base.specs.Hashing.{id_of}
-use Rattle.fetch_store.specs.Objects.{Stored}
+use Rattle.fetch_objects.specs.Objects.{Stored}
 use Rattle.fetch_store.specs.Collisions.{HasDistinctIds}
 use Rattle.fetch_store.specs.Stores.{Entries}
 use Rattle.std.specs.List.{AllByRecursion}

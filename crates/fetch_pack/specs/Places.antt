@@ -4,7 +4,7 @@ use Rattle.std.specs.BTreeMap as tree
 use Rattle.std.specs.BTreeMap.{BTreeMap}
 use Rattle.std.specs.FinMap.{find}
 use Rattle.fetch_base.specs.declared.id.ObjectId.{ObjectId}
-use Rattle.fetch_store.specs.Objects.{Stored}
+use Rattle.fetch_objects.specs.Objects.{Stored}
 use Rattle.fetch_store.specs.Stores.{Entries}
 use Rattle.fetch_base.specs.Id.{id_cmp}
 

@@ -8,7 +8,7 @@ use Rattle.fetch_base.specs.declared.id.Kind.{Kind}
 use Rattle.fetch_base.specs.declared.id.ObjectId.{ObjectId}
 use Rattle.fetch_base.specs.Id.{byte_len, id_of_bytes, id_cmp}
 use Rattle.fetch_base.specs.Hashing.{digest, id_of}
-use Rattle.fetch_store.specs.Objects.{Stored, is_object}
+use Rattle.fetch_objects.specs.Objects.{Stored, is_object}
 use Rattle.fetch_store.specs.Stores.{Entries, collision}
 use Rattle.fetch_pack.specs.declared.error.PackError.{PackError}
 use Rattle.fetch_pack.specs.declared.error.PackError.TheVariants.{Malformed, PackDigest, IdMismatch, Collision, NoMemory}

@@ -6,7 +6,7 @@ use Rattle.fetch_base.specs.declared.id.Kind.{Kind}
 use Rattle.fetch_base.specs.declared.id.ObjectId.{ObjectId}
 use Rattle.fetch_base.specs.Id.{byte_len, bytes_of, kind_of}
 use Rattle.fetch_base.specs.Hashing.{digest, id_of}
-use Rattle.fetch_store.specs.Objects.{IsObject}
+use Rattle.fetch_objects.specs.Objects.{IsObject}
 use Rattle.fetch_store.specs.Stores.{collision}
 use Rattle.fetch_pack.specs.declared.error.PackError.{PackError}
 use Rattle.fetch_pack.specs.declared.error.PackError.TheVariants.{Malformed, PackDigest, IdMismatch, Collision, NoMemory}

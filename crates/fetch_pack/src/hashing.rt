@@ -1,7 +1,7 @@
 //! Hashing objects, in pieces that threads take.
 
 ghost use Rattle.std.specs.Prelude.{◌≡◌, ℕ, ◌*◌, ◌+◌, ◌<◌, ◌≤◌, min, max, length, get_or, IfOk};
-ghost use Rattle.fetch_store.specs.Objects.{Stored};
+ghost use Rattle.fetch_objects.specs.Objects.{Stored};
 ghost use Rattle.fetch_base.specs.declared.id.ObjectId.{ObjectId as Id};
 ghost use Rattle.fetch_pack.specs.Reading.{hashed, ids_of};
 

@@ -5,7 +5,7 @@ ghost use Rattle.std.specs.BTreeMap as tree;
 ghost use Rattle.std.specs.FinMap as map;
 ghost use Rattle.std.specs.Option.{option_copied};
 ghost use Rattle.fetch_base.specs.declared.id.ObjectId.{ObjectId as Id};
-ghost use Rattle.fetch_store.specs.Objects.{Stored};
+ghost use Rattle.fetch_objects.specs.Objects.{Stored};
 ghost use Rattle.fetch_base.specs.Id.{id_cmp};
 ghost use Rattle.fetch_pack.specs.Reading as spec;
 ghost use Rattle.fetch_base.specs.Answers.{AnswersBy};

@@ -4,13 +4,13 @@ use Rattle.std.specs.Prelude.{if◌then◌else◌}
 use Rattle.std.specs.FinSet as set
 use Rattle.std.proofs.lemmas.List.Elements.{All-weaker}
 use Rattle.fetch_base.specs.declared.id.ObjectId.{ObjectId}
-use Rattle.fetch_store.specs.Objects.{Stored}
+use Rattle.fetch_objects.specs.Objects.{Stored}
 use Rattle.fetch_store.specs.Stores.{Entries, add_all}
 use Rattle.fetch_store.specs.Closed.{Holding, IsStored, links, others}
 use Rattle.fetch_store.specs.Honest.{Request, Pack, taken, IsThere, IsCommitThere, IsDeepened, IsHonest}
 use Rattle.fetch_store.specs.Missing.{missing}
 use Rattle.fetch_store.proofs.Growth.{stored_added}
-use Rattle.fetch_store.proofs.Lists.{others_from_links}
+use Rattle.fetch_objects.proofs.LinkLaws.{others_from_links}
 use Rattle.fetch_store.proofs.Reaching.{reached_more}
 use Rattle.fetch_store.proofs.Whole as taking
 use Rattle.fetch_reach.specs.Whole.{Has, IsWhole, with_haves, without_lines}

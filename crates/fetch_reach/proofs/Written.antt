@@ -15,7 +15,7 @@ use Rattle.std.proofs.lemmas.Map.Keys.{sorted_head, sorted_tail}
 use Rattle.fetch_base.specs.declared.id.Kind.{Kind}
 use Rattle.fetch_base.specs.declared.id.ObjectId.{ObjectId}
 use Rattle.fetch_base.specs.Hashing.{digest, id_of}
-use Rattle.fetch_store.specs.Objects.{Stored, IsObject}
+use Rattle.fetch_objects.specs.Objects.{Stored, IsObject}
 use Rattle.fetch_store.specs.Closed.{AreAllOf}
 use Rattle.fetch_store.specs.Collisions.{HasDistinctIds, AreAtOne}
 use Rattle.fetch_store.specs.Stores.{Entries, ObjectMap, collision}

@@ -3,7 +3,7 @@
 ghost use Rattle.std.specs.Prelude.{◌≡◌, ◌<◌, ◌^◌, ◌++◌, All, length, OnOk, OnErr, IfOk};
 ghost use Rattle.fetch_store.specs.Closed.{AreAllOf};
 ghost use Rattle.fetch_base.specs.Hashing as hashing;
-ghost use Rattle.fetch_store.specs.References.{seen};
+ghost use Rattle.fetch_objects.specs.References.{seen};
 ghost use Rattle.fetch_pack.specs.Records as spec;
 ghost use Rattle.fetch_pack.specs.Records.{Fits, body, pack_text, payload_of, payloads_of, record_text, id_text};
 ghost use Rattle.fetch_pack.specs.Texts.{Keeps};

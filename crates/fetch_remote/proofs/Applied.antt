@@ -4,7 +4,7 @@ use Rattle.std.specs.Prelude.{◌⊎◌, ◌||◌, IfErr, ⊤, is_some, unwrap_o
 use Rattle.std.specs.FinMap as map
 use Rattle.std.proofs.lemmas.Bool.{OnFalse_at}
 use Rattle.fetch_base.specs.Answers.{AnswersUnless}
-use Rattle.fetch_store.specs.Objects.{Stored}
+use Rattle.fetch_objects.specs.Objects.{Stored}
 use Rattle.std.specs.List.{slice_get}
 use Rattle.std.proofs.lemmas.List.Elements.{All-contains}
 use Rattle.fetch_base.specs.declared.id.ObjectId.{ObjectId}

@@ -11,7 +11,7 @@ use Rattle.std.proofs.lemmas.Slice.Eq.{bytes_eq-Decides}
 use Rattle.fetch_base.specs.declared.id.ObjectId.{ObjectId}
 use Rattle.fetch_store.specs.Closed.{IsStored}
 use Rattle.fetch_store.specs.Graph.{node_of, graph_of}
-use Rattle.fetch_store.specs.Objects.{Stored}
+use Rattle.fetch_objects.specs.Objects.{Stored}
 use Rattle.fetch_store.specs.Stores.{ObjectMap}
 use Rattle.fetch_files.specs.Trees.{Tree}
 use Rattle.fetch_store.proofs.Graphs.{get-graph_of}

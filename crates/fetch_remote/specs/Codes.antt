@@ -3,7 +3,7 @@ use Rattle.std.specs.Prelude.{◌≡◌, ℕ, zero, suc, Bool, List, Option, ref
 use Rattle.std.specs.Coded.{Coded, code_by, coded_ℕ, coded_bool, coded_list, coded_option, coded×}
 use Rattle.std.specs.FinMap as map
 use Rattle.fetch_store.specs.Borders.{IdSet, coded_ids}
-use Rattle.fetch_store.specs.Codes.{coded_kind, coded_id, coded_stored}
+use Rattle.fetch_objects.specs.Codes.{coded_kind, coded_id, coded_stored}
 use Rattle.fetch_store.specs.Stores.{ObjectMap}
 use Rattle.fetch_base.specs.Id.{id_cmp}
 use Rattle.fetch_base.specs.declared.id.Kind.{Kind}

@@ -13,7 +13,7 @@ use Rattle.fetch_pack.specs.declared.version.PackVersion.{PackVersion}
 use Rattle.fetch_reach.proofs.Written.{is_read, they_fit}
 use Rattle.fetch_specs.specs.Names.{is_full_name}
 use Rattle.fetch_base.specs.Hashing.{digest}
-use Rattle.fetch_store.specs.Objects.{Stored}
+use Rattle.fetch_objects.specs.Objects.{Stored}
 use Rattle.fetch_base.specs.declared.id.Kind.{Kind}
 use Rattle.fetch_base.specs.declared.id.Kind.TheVariants.{Sha1, Sha256}
 use Rattle.fetch_base.specs.declared.id.ObjectId.{ObjectId}

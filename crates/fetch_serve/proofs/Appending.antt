@@ -11,7 +11,7 @@ use Rattle.fetch_pack.specs.declared.version.PackVersion.TheVariants.{V1}
 use Rattle.fetch_reach.specs.Stored.{CanHold, objects_at}
 use Rattle.fetch_base.specs.Digits.{hex_of}
 use Rattle.fetch_base.specs.Id.{byte_len, bytes_of, kind_of}
-use Rattle.fetch_store.specs.Objects.{Stored}
+use Rattle.fetch_objects.specs.Objects.{Stored}
 use Rattle.fetch_base.specs.declared.id.ObjectId.{ObjectId}
 use Rattle.fetch_lines.specs.Bands.{Piece, band_line}
 use Rattle.fetch_lines.specs.Bands as bands

@@ -12,7 +12,7 @@ use Rattle.fetch_store.specs.Borders.{IdSet, merged, set_of}
 use Rattle.fetch_store.specs.Closed.{Reached}
 use Rattle.fetch_store.specs.Graph.{Graph}
 use Rattle.fetch_store.specs.Missing.{parents_at}
-use Rattle.fetch_store.specs.Objects.{Stored}
+use Rattle.fetch_objects.specs.Objects.{Stored}
 use Rattle.fetch_store.specs.Stores.{ObjectMap}
 use Rattle.fetch_base.specs.Id.{id_cmp}
 use Rattle.fetch_base.specs.declared.id.ObjectId.{ObjectId}

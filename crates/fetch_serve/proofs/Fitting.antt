@@ -17,7 +17,7 @@ use Rattle.fetch_refs.specs.declared.target.Target.TheVariants.{Object, Symbolic
 use Rattle.fetch_refs.proofs.TagWays.{tags_end}
 use Rattle.fetch_store.specs.Graph.{Graph, Node, node_of}
 use Rattle.fetch_base.specs.Id.{byte_len, bytes_of}
-use Rattle.fetch_store.specs.Objects.{Stored}
+use Rattle.fetch_objects.specs.Objects.{Stored}
 use Rattle.fetch_store.specs.Stores.{ObjectMap}
 use Rattle.fetch_base.specs.declared.id.Kind.{Kind}
 use Rattle.fetch_base.specs.declared.id.Kind.TheVariants.{Sha1, Sha256}

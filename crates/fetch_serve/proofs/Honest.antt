@@ -11,7 +11,7 @@ use Rattle.fetch_store.specs.Borders.{IdSet, merged}
 use Rattle.fetch_store.specs.Closed.{Holding, IsCommit, IsStored, IsWalk, Reached, is_commit, links, links_within, others, parents}
 use Rattle.fetch_store.specs.Honest.{IsCommitThere, IsDeepened, IsHonest, IsThere, Pack, Request}
 use Rattle.fetch_store.specs.Missing.{parents_at}
-use Rattle.fetch_store.specs.Objects.{Stored}
+use Rattle.fetch_objects.specs.Objects.{Stored}
 use Rattle.fetch_store.specs.Stores.{ObjectMap}
 use Rattle.fetch_base.specs.Id.{id_cmp}
 use Rattle.fetch_base.specs.declared.id.ObjectId.{ObjectId}
@@ -20,7 +20,7 @@ use Rattle.fetch_refs.proofs.TagWays.{exact}
 use Rattle.fetch_store.proofs.Finds.{ties}
 use Rattle.fetch_store.proofs.Honesty.{commit_at, reached_stored}
 use Rattle.fetch_base.proofs.Ids.{id_cmp_total}
-use Rattle.fetch_store.proofs.Lists.{others_from_links, parents_from_links}
+use Rattle.fetch_objects.proofs.LinkLaws.{others_from_links, parents_from_links}
 use Rattle.fetch_store.proofs.Members.{cases_in, none_in}
 use Rattle.fetch_store.proofs.Reaching.{All-Contains, reached_closed, reached_next, reached_start}
 use Rattle.fetch_reach.specs.Stored.{entries_at, entry_at}

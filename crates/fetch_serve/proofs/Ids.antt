@@ -10,7 +10,7 @@ use Rattle.sha2.specs.Sha256 as two
 use Rattle.fetch_store.specs.Closed.{IsStored}
 use Rattle.fetch_base.specs.Hashing.{digest}
 use Rattle.fetch_base.specs.Id.{byte_len, bytes_of, kind_of}
-use Rattle.fetch_store.specs.Objects.{Stored}
+use Rattle.fetch_objects.specs.Objects.{Stored}
 use Rattle.fetch_base.specs.declared.id.Kind.{Kind}
 use Rattle.fetch_base.specs.declared.id.Kind.TheVariants.{Sha1, Sha256}
 use Rattle.fetch_base.specs.declared.id.ObjectId.{ObjectId}

@@ -11,7 +11,7 @@ use Rattle.fetch_store.specs.Borders.{IdSet}
 use Rattle.fetch_store.specs.Closed.{IsCommit, is_commit, parents}
 use Rattle.fetch_store.specs.Graph.{Graph, Node, graph_of, is_commit_at, node_of}
 use Rattle.fetch_store.specs.Missing.{parents_at}
-use Rattle.fetch_store.specs.Objects.{Stored}
+use Rattle.fetch_objects.specs.Objects.{Stored}
 use Rattle.fetch_base.specs.Kinds.{is_kind}
 use Rattle.fetch_store.specs.Spread.{IsWithin}
 use Rattle.fetch_store.specs.Stores.{ObjectMap}

@@ -11,7 +11,7 @@ use Rattle.fetch_refs.specs.declared.error.RefError.TheVariants as refusals
 use Rattle.fetch_refs.specs.declared.target.Target.{Target}
 use Rattle.fetch_store.specs.Closed.{IsStored}
 use Rattle.fetch_store.specs.Graph.{Graph, Node, node_of}
-use Rattle.fetch_store.specs.Objects.{Stored}
+use Rattle.fetch_objects.specs.Objects.{Stored}
 use Rattle.fetch_base.specs.declared.id.ObjectId.{ObjectId}
 use Rattle.fetch_store.proofs.Graphs.{get-graph_of}
 use Rattle.fetch_store.proofs.Lists.{map_nil}

@@ -8,7 +8,7 @@ use Rattle.fetch_refs.specs.Leading.{IsTagWay, Leads, next_tag}
 use Rattle.fetch_refs.proofs.TagWays.{tags_end}
 use Rattle.fetch_store.specs.Closed.{links}
 use Rattle.fetch_store.specs.Graph.{Graph, Node, node_of}
-use Rattle.fetch_store.specs.Objects.{IsObject, Stored, links_of}
+use Rattle.fetch_objects.specs.Objects.{IsObject, Stored, links_of}
 use Rattle.fetch_base.specs.Kinds.{is_kind}
 use Rattle.fetch_store.specs.Stores.{ObjectMap}
 use Rattle.fetch_base.specs.declared.id.ObjectId.{ObjectId}
@@ -17,7 +17,7 @@ use Rattle.fetch_base.specs.declared.object_kind.ObjectKind.TheVariants.{Commit,
 use Rattle.fetch_store.proofs.Graphs.{get-graph_of}
 use Rattle.fetch_store.proofs.Members.{first_in, later_in, cases_in, none_in}
 use Rattle.fetch_store.proofs.Pigeons.{AreStored, are_distinct, no_more}
-use Rattle.fetch_store.proofs.TagTexts.{tags_are_texts}
+use Rattle.fetch_objects.proofs.TagTexts.{tags_are_texts}
 use Rattle.fetch_reach.specs.Named.{AreObjects}
 use Rattle.fetch_lines.specs.References.{id_in, name_in, peeled_in}
 use Rattle.fetch_asked.specs.declared.asked.FetchAsked.{FetchAsked}

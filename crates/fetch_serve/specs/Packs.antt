@@ -10,7 +10,7 @@ use Rattle.fetch_store.specs.Closed.{Holding, IsClosed, IsCommit, Reached, holdi
 use Rattle.fetch_store.specs.Graph.{Graph}
 use Rattle.fetch_store.specs.Honest.{Pack}
 use Rattle.fetch_store.specs.Missing.{parents_at}
-use Rattle.fetch_store.specs.Objects.{Stored}
+use Rattle.fetch_objects.specs.Objects.{Stored}
 use Rattle.fetch_store.specs.Stores.{ObjectMap}
 use Rattle.fetch_base.specs.declared.id.ObjectId.{ObjectId}
 use Rattle.fetch_refs.specs.Leading.{IsTagWay, next_tag}

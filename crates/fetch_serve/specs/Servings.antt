@@ -6,7 +6,7 @@ use Rattle.std.specs.Coded.{Coded, code_by, coded_ℕ, coded_bool, coded_list, c
 use Rattle.std.specs.FinMap as map
 use Rattle.fetch_refs.specs.Codes.{coded_target}
 use Rattle.fetch_refs.specs.Names.{Names, name_cmp}
-use Rattle.fetch_store.specs.Codes.{coded_kind, coded_id, coded_stored}
+use Rattle.fetch_objects.specs.Codes.{coded_kind, coded_id, coded_stored}
 use Rattle.fetch_store.specs.Stores.{ObjectMap}
 use Rattle.fetch_base.specs.Id.{id_cmp}
 use Rattle.fetch_base.specs.declared.id.Kind.{Kind}

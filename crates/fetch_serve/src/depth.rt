@@ -15,7 +15,7 @@ ghost use Rattle.fetch_serve.specs.Ways.{steps_by};
 ghost use Rattle.fetch_specs.specs.Matches.{taken};
 ghost use Rattle.fetch_store.specs.Borders.{set_of};
 ghost use Rattle.fetch_store.specs.Graph.{graph_of};
-ghost use Rattle.fetch_store.specs.References.{parents_left};
+ghost use Rattle.fetch_objects.specs.References.{parents_left};
 ghost use Rattle.fetch_base.specs.Id.{id_cmp};
 
 use crate::offered::{append_ids_in, peeled_from, stands_among};

@@ -7,7 +7,7 @@ use Rattle.std.specs.Option.{option_and_then, option_map}
 use Rattle.fetch_base.specs.declared.id.ObjectId.{ObjectId}
 use Rattle.fetch_store.specs.Closed.{IsStored}
 use Rattle.fetch_store.specs.Graph.{node_of, graph_of}
-use Rattle.fetch_store.specs.Objects.{Stored}
+use Rattle.fetch_objects.specs.Objects.{Stored}
 use Rattle.fetch_store.specs.Stores.{ObjectMap}
 use Rattle.fetch_store.proofs.Graphs.{get-graph_of}
 use Rattle.fetch_specs.specs.declared.tags.Tags.{Tags}

@@ -7,7 +7,7 @@ use Rattle.std.specs.FinMap.{find, get, contains_key, insert, len, get-insert, l
 use Rattle.std.proofs.lemmas.List.{take_more}
 use Rattle.fetch_base.specs.declared.id.Kind.{Kind}
 use Rattle.fetch_base.specs.declared.id.ObjectId.{ObjectId}
-use Rattle.fetch_store.specs.Objects.{Stored}
+use Rattle.fetch_objects.specs.Objects.{Stored}
 use Rattle.fetch_store.specs.Stores.{Entries, ObjectMap, map_of, AreOf, add, add_all, first_some, clashes, collision}
 use Rattle.fetch_base.specs.Id.{id_cmp}
 use Rattle.fetch_base.proofs.Ids.{id_cmp_total, id_cmp_exact}

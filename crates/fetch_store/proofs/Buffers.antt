@@ -12,7 +12,7 @@ use Rattle.fetch_base.specs.declared.id.Kind.{Kind}
 use Rattle.fetch_base.specs.declared.id.ObjectId.{ObjectId}
 use Rattle.fetch_store.specs.declared.span.Span.{Span}
 use Rattle.fetch_base.specs.Id.{kind_of, id_cmp}
-use Rattle.fetch_store.specs.Objects.{Stored, IsObject}
+use Rattle.fetch_objects.specs.Objects.{Stored, IsObject}
 use Rattle.fetch_store.specs.Stores.{Entries, AreOf, map_of, add_all, first_some, collision, payload_len}
 use Rattle.fetch_store.specs.Entries.{IsConsistent, IsInOrder}
 use Rattle.fetch_store.specs.Buffers.{lent, Index, entries_in, IsLent, IsIndexed, IsAppended, IsTaken, first_of}

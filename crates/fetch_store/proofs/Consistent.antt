@@ -10,7 +10,7 @@ use Rattle.fetch_base.specs.declared.id.ObjectId.{ObjectId}
 use Rattle.fetch_base.specs.Id.{kind_of, id_cmp}
 use Rattle.fetch_base.specs.declared.object_kind.ObjectKind.{ObjectKind}
 use Rattle.fetch_base.specs.declared.object_kind.ObjectKind.TheVariants.{Commit, Tree, Blob, Tag}
-use Rattle.fetch_store.specs.Objects.{Stored, has_same_text}
+use Rattle.fetch_objects.specs.Objects.{Stored, has_same_text}
 use Rattle.fetch_base.specs.Kinds.{is_kind}
 use Rattle.fetch_store.specs.Stores.{Entries, ObjectMap, AreOf, map_of, add, add_all, first_some, clashes, collision}
 use Rattle.fetch_store.specs.Entries.{IsConsistent, IsInOrder}

@@ -4,7 +4,7 @@ use Rattle.std.specs.Prelude.{option_map}
 use Rattle.std.specs.FinMap.{get, len, entries, entries_sorted, is_sorted, get-entries, get-from_sorted, len-entries, entries-from_sorted}
 use Rattle.std.proofs.lemmas.List.{length-map}
 use Rattle.fetch_base.specs.declared.id.ObjectId.{ObjectId}
-use Rattle.fetch_store.specs.Objects.{Stored}
+use Rattle.fetch_objects.specs.Objects.{Stored}
 use Rattle.fetch_store.specs.Stores.{Entries, ObjectMap}
 use Rattle.fetch_base.specs.Id.{id_cmp}
 use Rattle.fetch_store.specs.Graph.{Node, node_of, graph_of}

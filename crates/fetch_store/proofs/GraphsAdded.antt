@@ -5,7 +5,7 @@ use Rattle.std.specs.FinMap.{find, len, len-entries, entries, entries_sorted, is
 use Rattle.std.proofs.lemmas.List.Elements.{All-map, All-weaker}
 use Rattle.fetch_base.specs.declared.id.Kind.{Kind}
 use Rattle.fetch_base.specs.declared.id.ObjectId.{ObjectId}
-use Rattle.fetch_store.specs.Objects.{Stored}
+use Rattle.fetch_objects.specs.Objects.{Stored}
 use Rattle.fetch_store.specs.Stores.{Entries, ObjectMap, AreOf, map_of, add_all, first_some, collision}
 use Rattle.fetch_base.specs.Id.{id_cmp}
 use Rattle.fetch_store.specs.Entries.{IsConsistent, IsInOrder}

@@ -8,7 +8,7 @@ use Rattle.std.proofs.lemmas.List.Elements.{All-weaker}
 use Rattle.fetch_base.specs.declared.id.ObjectId.{ObjectId}
 use Rattle.fetch_base.specs.declared.id.Kind.{Kind}
 use Rattle.fetch_base.specs.declared.object_kind.ObjectKind.TheVariants.{Commit}
-use Rattle.fetch_store.specs.Objects.{Stored}
+use Rattle.fetch_objects.specs.Objects.{Stored}
 use Rattle.fetch_base.specs.Kinds.{is_kind}
 use Rattle.fetch_store.specs.Stores.{ObjectMap, AreOf, add_all, first_some, collision}
 use Rattle.fetch_base.specs.Id.{id_cmp}
@@ -17,7 +17,8 @@ use Rattle.fetch_store.specs.Borders.{merged}
 use Rattle.fetch_store.specs.Closed.{Grows, Holding, IsClosed, IsStored, IsCommit, is_commit, IsWalk, Reached, AreAllOf, links_within, links, others, parents}
 use Rattle.fetch_store.specs.Honest.{Request, Pack, taken, IsThere, IsCommitThere, IsDeepened, IsHonest}
 use Rattle.fetch_store.specs.Missing.{parents_at}
-use Rattle.fetch_store.proofs.Lists.{All-find, parents_from_links, All-of}
+use Rattle.fetch_store.proofs.Lists.{All-find, All-of}
+use Rattle.fetch_objects.proofs.LinkLaws.{parents_from_links}
 use Rattle.fetch_store.proofs.Growth.{grows_self, grows_trans, grows-add_all, stored_grows, commit_grows, stored_added}
 use Rattle.fetch_store.proofs.Merges.{merged_moved, within_moved}
 use Rattle.fetch_store.proofs.Agreement.{Agrees, all_agree, kind_of_same, same_object}

@@ -10,7 +10,7 @@ use Rattle.std.specs.FinMap.{find}
 use Rattle.std.specs.declared.cmp.Ordering.{Ordering}
 use Rattle.fetch_base.specs.declared.id.ObjectId.{ObjectId}
 use Rattle.fetch_base.specs.contracts.id.ObjectIdOrd.TheImpl as order
-use Rattle.fetch_store.specs.Objects.{Stored}
+use Rattle.fetch_objects.specs.Objects.{Stored}
 use Rattle.fetch_store.specs.Stores.{Entries}
 use Rattle.fetch_base.specs.Id.{id_cmp}
 use Rattle.fetch_store.specs.Indexes.{IsIndexOf}

@@ -1,4 +1,3 @@
-pub mod Readings
 pub mod Finds
 pub mod Additions
 pub mod Indexed
@@ -23,17 +22,11 @@ pub mod Firsts
 pub mod Takes
 pub mod GraphsAdded
 pub mod Extended
-pub mod TagTexts
-pub mod TreeTexts
-pub mod CommitTexts
-pub mod Places
-pub mod LinkCounts
 pub mod Viewed
 pub mod Merging
 pub mod Buffers
 pub mod Probes
 pub mod Collided
-pub mod Silent
 pub mod Apart
 pub mod FrontPlaces
 pub mod Walking

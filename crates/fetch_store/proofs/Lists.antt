@@ -1,65 +1,15 @@
--- What holds of each link, and of what a test or a look-up finds.
-use Rattle.std.proofs.Common.{◌≡◌, Bool, true, false, cond, not, List, [], ◌∷◌, ◌++◌, map, filter, flat_map, Option, Some, All, filter_map, refl, sym, subst}
-use Rattle.std.specs.List.{AllByRecursion}
+-- What holds of what a test or a look-up finds.
+use Rattle.std.proofs.Common.{◌≡◌, Bool, true, false, cond, not, List, [], ◌∷◌, ◌++◌, map, filter, flat_map, Option, Some, All, refl, sym, subst}
 use Rattle.std.specs.Ordering.{eq_by_cmp}
 use Rattle.std.specs.Cmp.{Equal-is}
 use Rattle.std.specs.FinMap.{find}
-use Rattle.std.proofs.lemmas.List.Elements.{recursion_from_All, All-from_recursion, All-nil, All-cons, All-head, All-tail}
+use Rattle.std.proofs.lemmas.List.Elements.{All-nil, All-cons, All-head, All-tail}
 use Rattle.fetch_base.specs.declared.id.ObjectId.{ObjectId}
-use Rattle.fetch_store.specs.declared.grammar.Part.{Part}
-use Rattle.fetch_store.specs.declared.grammar.Part.TheVariants.{Tree, Parent, Author, Committer, Entry, Submodule, Tagged, TaggedKind}
-use Rattle.fetch_store.specs.Objects.{Stored, reading_of, link_in, parent_in, other_link_in}
+use Rattle.fetch_objects.specs.Objects.{Stored}
 use Rattle.fetch_base.specs.declared.id.Kind.{Kind}
 use Rattle.fetch_store.specs.Stores.{Entries, AreOf}
 use Rattle.fetch_base.specs.Id.{id_cmp}
 use Rattle.fetch_base.proofs.Ids.{id_cmp_exact}
-use Rattle.fetch_store.specs.Closed.{links, others, parents}
-
-abbrev parts_of : Stored → List Part
-parts_of o = (reading_of o.hash o.kind o.bytes).parts
-
-module _ (P : ObjectId → Type 0) where
-  fewer : (ps : List Part) → AllByRecursion P (filter_map link_in ps) → AllByRecursion P (filter_map other_link_in ps)
-  fewer [] h = tt
-  fewer (Tree id ∷ ps) h = (h.0, fewer ps h.1)
-  fewer (Parent id ∷ ps) h = fewer ps h.1
-  fewer (Author ∷ ps) h = fewer ps h
-  fewer (Committer s ∷ ps) h = fewer ps h
-  fewer (Entry id ∷ ps) h = (h.0, fewer ps h.1)
-  fewer (Submodule ∷ ps) h = fewer ps h
-  fewer (Tagged id ∷ ps) h = (h.0, fewer ps h.1)
-  fewer (TaggedKind k ∷ ps) h = fewer ps h
-
-  both : (ps : List Part) → AllByRecursion P (filter_map other_link_in ps) → AllByRecursion P (filter_map parent_in ps) → AllByRecursion P (filter_map link_in ps)
-  both [] h k = tt
-  both (Tree id ∷ ps) h k = (h.0, both ps h.1 k)
-  both (Parent id ∷ ps) h k = (k.0, both ps h k.1)
-  both (Author ∷ ps) h k = both ps h k
-  both (Committer s ∷ ps) h k = both ps h k
-  both (Entry id ∷ ps) h k = (h.0, both ps h.1 k)
-  both (Submodule ∷ ps) h k = both ps h k
-  both (Tagged id ∷ ps) h k = (h.0, both ps h.1 k)
-  both (TaggedKind s ∷ ps) h k = both ps h k
-
-  onlyparents : (ps : List Part) → AllByRecursion P (filter_map link_in ps) → AllByRecursion P (filter_map parent_in ps)
-  onlyparents [] h = tt
-  onlyparents (Tree id ∷ ps) h = onlyparents ps h.1
-  onlyparents (Parent id ∷ ps) h = (h.0, onlyparents ps h.1)
-  onlyparents (Author ∷ ps) h = onlyparents ps h
-  onlyparents (Committer s ∷ ps) h = onlyparents ps h
-  onlyparents (Entry id ∷ ps) h = onlyparents ps h.1
-  onlyparents (Submodule ∷ ps) h = onlyparents ps h
-  onlyparents (Tagged id ∷ ps) h = onlyparents ps h.1
-  onlyparents (TaggedKind k ∷ ps) h = onlyparents ps h
-
-  pub others_from_links : (o : Stored) → All P (links o) → All P (others o)
-  others_from_links o h = All-from_recursion P _ (fewer (parts_of o) (recursion_from_All P _ h))
-
-  pub parents_from_links : (o : Stored) → All P (links o) → All P (parents o)
-  parents_from_links o h = All-from_recursion P _ (onlyparents (parts_of o) (recursion_from_All P _ h))
-
-  pub links_from_both : (o : Stored) → All P (others o) → All P (parents o) → All P (links o)
-  links_from_both o h k = All-from_recursion P _ (both (parts_of o) (recursion_from_All P _ h) (recursion_from_All P _ k))
 
 -- an entry that is found
 module _ {X : Type 0} (P : ObjectId × X → Type 0) (q : ObjectId) (o : X) where

@@ -21,7 +21,7 @@ use Rattle.fetch_store.specs.Buffers.{Index}
 use Rattle.fetch_store.specs.Closed.{holding, links, links_within, others}
 use Rattle.fetch_store.specs.Found.{with_each}
 use Rattle.fetch_store.specs.Marks.{AreMarked, ids_at, is_among}
-use Rattle.fetch_store.specs.Objects.{Stored}
+use Rattle.fetch_objects.specs.Objects.{Stored}
 use Rattle.fetch_store.specs.Spread.{next_to, nexts_in}
 use Rattle.fetch_store.specs.Stores.{ObjectMap}
 use Rattle.fetch_base.specs.Id.{id_cmp}

@@ -5,13 +5,13 @@ use Rattle.std.specs.List.{list_any}
 use Rattle.std.specs.Ordering.{eq_by_cmp}
 use Rattle.std.specs.FinSet as set
 use Rattle.fetch_base.specs.declared.id.ObjectId.{ObjectId}
-use Rattle.fetch_store.specs.Objects.{Stored}
+use Rattle.fetch_objects.specs.Objects.{Stored}
 use Rattle.fetch_base.specs.Id.{id_cmp}
 use Rattle.fetch_base.proofs.Ids.{id_cmp_total}
 use Rattle.fetch_store.specs.Borders.{IdSet, merged}
 use Rattle.fetch_store.specs.Closed.{links, others, parents, links_within}
 use Rattle.fetch_store.specs.Honest.{Pack}
-use Rattle.fetch_store.proofs.Lists.{others_from_links, links_from_both}
+use Rattle.fetch_objects.proofs.LinkLaws.{others_from_links, links_from_both}
 
 abbrev pub named : ObjectId → List ObjectId → Bool
 named q ids = list_any (eq_by_cmp id_cmp q) ids

@@ -5,9 +5,9 @@ use Rattle.std.specs.FinSet as set
 use Rattle.std.specs.Prelude.{IsSome, IsTrue, is_some, if◌then◌else◌}
 use Rattle.std.proofs.lemmas.List.Elements.{All-contains, All-contains_itself}
 use Rattle.fetch_base.specs.declared.id.ObjectId.{ObjectId}
-use Rattle.fetch_store.specs.Objects.{Stored}
+use Rattle.fetch_objects.specs.Objects.{Stored}
 use Rattle.fetch_store.specs.Closed.{Holding, Grows, IsClosed, IsStored, IsWalk, Reached, links, links_within, others}
-use Rattle.fetch_store.proofs.Lists.{others_from_links}
+use Rattle.fetch_objects.proofs.LinkLaws.{others_from_links}
 
 -- what holds of each id of a list holds of one that it contains
 pub All-Contains : (P : ObjectId → Type 0) (xs : List ObjectId) (x : ObjectId) → All P xs → Contains xs x → P x

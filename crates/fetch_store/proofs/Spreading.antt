@@ -17,7 +17,7 @@ use Rattle.std.proofs.lemmas.List.Sorted.{sum_by-IsPermutation, Contains-permuta
 use Rattle.std.proofs.lemmas.List.Kept.{IsStrictlySortedBy-dedup}
 use Rattle.std.proofs.lemmas.Map.Keys.{IsDistinct-push, IsDistinct-head, IsDistinct-tail, IsDistinct-IsPermutation}
 use Rattle.fetch_base.specs.declared.id.ObjectId.{ObjectId}
-use Rattle.fetch_store.specs.Objects.{Stored}
+use Rattle.fetch_objects.specs.Objects.{Stored}
 use Rattle.fetch_base.specs.Id.{id_cmp}
 use Rattle.fetch_store.specs.Closed.{Holding, IsWalk, Reached, links_within}
 use Rattle.fetch_base.specs.Distinct.{with_distinct}

@@ -11,7 +11,7 @@ use Rattle.std.specs.FinSet as set
 use Rattle.std.specs.Prelude.{is_some, slice_get, ◌↔◌}
 use Rattle.std.proofs.lemmas.List.Elements.{All-nil, All-cons, All-head, All-tail}
 use Rattle.fetch_base.specs.declared.id.ObjectId.{ObjectId}
-use Rattle.fetch_store.specs.Objects.{Stored}
+use Rattle.fetch_objects.specs.Objects.{Stored}
 use Rattle.fetch_base.specs.Id.{id_cmp}
 use Rattle.fetch_store.specs.Borders.{ids_of}
 use Rattle.fetch_store.specs.Closed.{Holding, IsClosed, IsStored, IsCommit, is_commit, links_within, links_at}

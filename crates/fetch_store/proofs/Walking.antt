@@ -16,7 +16,7 @@ use Rattle.fetch_base.specs.declared.id.ObjectId.{ObjectId}
 use Rattle.fetch_store.specs.Closed.{Holding, Reached, links_at, links_within}
 use Rattle.fetch_store.specs.Found.{there, with_each}
 use Rattle.fetch_store.specs.Marks.{is_among}
-use Rattle.fetch_store.specs.Objects.{Stored}
+use Rattle.fetch_objects.specs.Objects.{Stored}
 use Rattle.fetch_store.specs.Spread.{IsNext, IsPath, IsWithin, Nexts, looked_at, next_to, nexts_in}
 use Rattle.fetch_store.specs.Stores.{ObjectMap}
 use Rattle.fetch_base.specs.Id.{id_cmp}

@@ -4,7 +4,7 @@ use Rattle.std.specs.Option.{option_map_or}
 use Rattle.std.specs.FinMap.{get, contains_key}
 use Rattle.std.proofs.lemmas.List.Elements.{All-weaker}
 use Rattle.fetch_base.specs.declared.id.ObjectId.{ObjectId}
-use Rattle.fetch_store.specs.Objects.{Stored}
+use Rattle.fetch_objects.specs.Objects.{Stored}
 use Rattle.fetch_store.specs.Stores.{ObjectMap, add_all}
 use Rattle.fetch_store.specs.Borders.{IdSet, merged}
 use Rattle.fetch_store.specs.Closed.{Grows, Holding, IsClosed, IsStored, IsCommit, is_commit, links_within, parents}

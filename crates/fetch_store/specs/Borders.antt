@@ -5,7 +5,7 @@ use Rattle.std.specs.FinMap as finmap
 use Rattle.std.specs.FinSet as set
 use Rattle.fetch_base.specs.declared.id.ObjectId.{ObjectId}
 use Rattle.fetch_base.specs.Id.{id_cmp}
-use Rattle.fetch_store.specs.Codes.{coded_id}
+use Rattle.fetch_objects.specs.Codes.{coded_id}
 
 -- a set of ids
 abbrev pub IdSet : Type 0

@@ -5,7 +5,7 @@ use Rattle.fetch_base.specs.declared.id.Kind.{Kind}
 use Rattle.fetch_base.specs.declared.id.ObjectId.{ObjectId}
 use Rattle.fetch_store.specs.declared.span.Span.{Span}
 use Rattle.fetch_base.specs.Id.{kind_of, id_cmp}
-use Rattle.fetch_store.specs.Objects.{Stored, IsObject}
+use Rattle.fetch_objects.specs.Objects.{Stored, IsObject}
 use Rattle.fetch_store.specs.Stores.{Entries, map_of, add_all, first_some}
 use Rattle.fetch_store.specs.Entries.{IsInOrder}
 

@@ -6,7 +6,7 @@ use Rattle.std.specs.FinSet as set
 use Rattle.fetch_base.specs.declared.id.Kind.{Kind}
 use Rattle.fetch_base.specs.declared.id.ObjectId.{ObjectId}
 use Rattle.fetch_base.specs.declared.object_kind.ObjectKind.TheVariants.{Commit}
-use Rattle.fetch_store.specs.Objects.{Stored, links_of, parents_of, others_of}
+use Rattle.fetch_objects.specs.Objects.{Stored, links_of, parents_of, others_of}
 use Rattle.fetch_base.specs.Kinds.{is_kind}
 use Rattle.fetch_store.specs.Stores.{ObjectMap}
 use Rattle.fetch_store.specs.Borders.{IdSet}

@@ -1,15 +1,14 @@
 -- What histories are read from: objects without their bytes.
-use Rattle.std.specs.Prelude.{ℕ, Bool, false, List, map, Option, None, if◌then◌else◌, refl}
+use Rattle.std.specs.Prelude.{ℕ, Bool, false, List, map, Option, refl}
 use Rattle.std.specs.Coded.{Coded, code_by, coded_ℕ, coded_list, coded_option, coded×}
-use Rattle.std.specs.List.{slice_get}
 use Rattle.std.specs.Option.{option_map_or}
 use Rattle.std.specs.FinMap as finmap
 use Rattle.fetch_base.specs.declared.id.ObjectId.{ObjectId}
 use Rattle.fetch_base.specs.declared.object_kind.ObjectKind.{ObjectKind}
-use Rattle.fetch_base.specs.declared.object_kind.ObjectKind.TheVariants.{Commit, Tag}
-use Rattle.fetch_store.specs.Objects.{Stored, links_of, parents_of, seconds_of}
+use Rattle.fetch_base.specs.declared.object_kind.ObjectKind.TheVariants.{Commit}
+use Rattle.fetch_objects.specs.Objects.{Stored, parents_of, seconds_of, target_of}
 use Rattle.fetch_base.specs.Kinds.{is_kind}
-use Rattle.fetch_store.specs.Codes.{coded_id, coded_object_kind}
+use Rattle.fetch_objects.specs.Codes.{coded_id, coded_object_kind}
 use Rattle.fetch_store.specs.Stores.{ObjectMap}
 use Rattle.fetch_base.specs.Id.{id_cmp}
 
@@ -21,10 +20,6 @@ pub record Node : Type 0 where
   pub seconds : Option ℕ
   -- of a tag
   pub target : Option ObjectId
-
--- what a tag names
-abbrev pub target_of : Stored → Option ObjectId
-target_of o = if is_kind o.kind Tag then slice_get (links_of o.hash o.kind o.bytes) 0 else None
 
 -- what a graph keeps of a stored object
 abbrev pub node_of : Stored → Node

@@ -3,11 +3,12 @@ use Rattle.std.specs.Prelude.{◌≡◌, ◌⊎◌, List, Some, IsTrue, IsSome, 
 use Rattle.std.specs.FinMap as map
 use Rattle.std.specs.FinSet as set
 use Rattle.fetch_base.specs.declared.id.ObjectId.{ObjectId}
-use Rattle.fetch_store.specs.Objects.{Stored}
+use Rattle.fetch_objects.specs.Objects.{Stored}
 use Rattle.fetch_store.specs.Stores.{Entries, add_all}
 use Rattle.fetch_base.specs.Id.{id_cmp}
 use Rattle.fetch_store.specs.Borders.{merged}
 use Rattle.fetch_store.specs.Closed.{Holding, Reached, IsCommit, is_commit, links_within, parents}
+use Rattle.fetch_store.specs.declared.take.Take.{Take}
 
 -- what a request was made of: what was held, what was wanted, and what was told to be there
 pub record Request : Type 0 where
@@ -20,6 +21,10 @@ pub record Pack : Type 0 where
   pub objects : Entries
   pub shallow : List ObjectId
   pub unshallow : List ObjectId
+
+-- what a take brings
+abbrev pub pack_of : Take → Pack
+pack_of t = record { objects = t.objects.now; shallow = t.shallow.now; unshallow = t.unshallow.now }
 
 -- what is held once a pack is taken
 abbrev pub taken : Holding → Pack → Holding

@@ -6,7 +6,7 @@ use Rattle.std.specs.FinMap.{find}
 use Rattle.std.specs.Option.{option_copied}
 use Rattle.std.specs.Borrow.{Bor}
 use Rattle.fetch_base.specs.declared.id.ObjectId.{ObjectId}
-use Rattle.fetch_store.specs.Objects.{Stored}
+use Rattle.fetch_objects.specs.Objects.{Stored}
 use Rattle.fetch_store.specs.Stores.{Entries}
 use Rattle.fetch_base.specs.Id.{id_cmp}
 use Rattle.fetch_store.specs.Fronts.{AreFronts}

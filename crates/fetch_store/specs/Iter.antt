@@ -1,11 +1,11 @@
 -- The objects of a store, one after the other.
 use Rattle.std.specs.Prelude.{List}
 use Rattle.fetch_base.specs.declared.id.ObjectId.{ObjectId}
-use Rattle.fetch_store.specs.declared.object.ObjectRef.{ObjectRef}
+use Rattle.fetch_objects.specs.declared.object.ObjectRef.{ObjectRef}
 use Rattle.fetch_store.specs.declared.store_iter.StoreIter.{StoreIter}
 use Rattle.fetch_store.specs.Buffers.{entries_in}
-use Rattle.fetch_store.specs.Objects.{Stored}
-use Rattle.fetch_store.specs.References.{seen}
+use Rattle.fetch_objects.specs.Objects.{Stored}
+use Rattle.fetch_objects.specs.References.{seen}
 
 -- the objects that are still to come
 abbrev pub left : StoreIter → List (ObjectId × Stored)

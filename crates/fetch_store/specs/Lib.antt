@@ -1,8 +1,3 @@
-pub mod Grammar
-pub mod Objects
-pub mod Steps
-pub mod References
-pub mod Codes
 pub mod Stores
 pub mod Graph
 pub mod Borders
@@ -18,7 +13,3 @@ pub mod Buffers
 pub mod Collisions
 pub mod Fronts
 pub mod Iter
-pub mod Texts
-pub mod TreeTexts
-pub mod CommitTexts
-pub mod Places

@@ -6,8 +6,8 @@ use Rattle.std.specs.FinMap as map
 use Rattle.fetch_base.specs.declared.id.Kind.{Kind}
 use Rattle.fetch_base.specs.declared.id.ObjectId.{ObjectId}
 use Rattle.fetch_base.specs.Id.{kind_of, id_cmp}
-use Rattle.fetch_store.specs.Objects.{Stored, has_same_text}
-use Rattle.fetch_store.specs.Codes.{coded_kind, coded_id, coded_stored}
+use Rattle.fetch_objects.specs.Objects.{Stored, has_same_text}
+use Rattle.fetch_objects.specs.Codes.{coded_kind, coded_id, coded_stored}
 
 -- stored objects by id
 abbrev pub ObjectMap : Type 0

@@ -5,16 +5,16 @@ ghost use Rattle.std.specs.FinMap as map;
 ghost use Rattle.fetch_base.specs.declared.id.Kind.{Kind};
 ghost use Rattle.fetch_store.specs.Buffers.{IsAppended, IsIndexed, IsLent, IsTaken, entries_in, lent};
 ghost use Rattle.fetch_store.specs.Entries.{IsInOrder};
-ghost use Rattle.fetch_store.specs.References.{seen};
+ghost use Rattle.fetch_objects.specs.References.{seen};
 ghost use Rattle.fetch_store.specs.Stores as spec;
 ghost use Rattle.fetch_store.specs.Stores.{AreOf, collision, map_of};
 ghost use Rattle.fetch_base.specs.Id.{id_cmp};
 
 use crate::entries::{arrange, find_in_order, merge};
-use crate::object::{Object, ObjectRef};
 use crate::span::Span;
 use crate::starts::Starts;
 use fetch_base::{Kind, NoMemory, ObjectId};
+use fetch_objects::{Object, ObjectRef};
 
 /// The object of a span.
 pub(crate) fn lend<'a>(hash: Kind, buffer: &'a [u8], span: &Span) -> ObjectRef<'a>

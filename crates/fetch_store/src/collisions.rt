@@ -5,15 +5,15 @@ ghost use Rattle.std.specs.BTreeMap as tree;
 ghost use Rattle.std.specs.FinMap as map;
 ghost use Rattle.std.specs.Option.{option_copied};
 ghost use Rattle.fetch_store.specs.Collisions.{HasDistinctIds};
-ghost use Rattle.fetch_store.specs.References.{seen};
+ghost use Rattle.fetch_objects.specs.References.{seen};
 ghost use Rattle.fetch_store.specs.Stores as spec;
 ghost use Rattle.fetch_store.specs.Stores.{first_some, collision};
 ghost use Rattle.fetch_base.specs.Id.{id_cmp};
 
 use crate::fronts::are_apart;
-use crate::object::{Object, ObjectRef};
 use crate::store::Store;
 use fetch_base::{NoMemory, ObjectId, same_id};
+use fetch_objects::{Object, ObjectRef};
 use std::alloc::Global;
 use std::collections::BTreeMap;
 

@@ -6,12 +6,12 @@ ghost use Rattle.std.specs.Option.{option_copied};
 ghost use Rattle.fetch_store.specs.Collisions.{HasDistinctIds};
 ghost use Rattle.fetch_store.specs.Fronts as spec;
 ghost use Rattle.fetch_store.specs.Fronts.{AreFronts, Rise};
-ghost use Rattle.fetch_store.specs.Objects.{Stored};
+ghost use Rattle.fetch_objects.specs.Objects.{Stored};
 ghost use Rattle.fetch_base.specs.Id.{id_cmp};
 ghost use Rattle.fetch_base.specs.declared.id.ObjectId.{ObjectId as Id};
 
-use crate::object::Object;
 use fetch_base::{NoMemory, ObjectId, same_id};
+use fetch_objects::Object;
 use std::alloc::Global;
 
 /// Whether the first eight bytes of the ids tell all of them apart. They are sorted as numbers, which takes a fraction of

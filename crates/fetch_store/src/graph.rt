@@ -5,18 +5,16 @@ ghost use Rattle.std.specs.FinMap as map;
 ghost use Rattle.std.specs.Option.{option_copied};
 ghost use Rattle.fetch_base.specs.declared.error.StoreError.TheVariants as errors;
 ghost use Rattle.fetch_store.specs.Graph.{node_of, graph_of};
-ghost use Rattle.fetch_store.specs.References.{seen};
+ghost use Rattle.fetch_objects.specs.References.{seen};
 ghost use Rattle.fetch_store.specs.Stores.{AreOf, ObjectMap, add_all, collision};
 ghost use Rattle.fetch_base.specs.declared.id.Kind.{Kind};
 
 use crate::entries::{arrange, find_in_order, merge_by};
-use crate::object::{Object, ObjectRef, read_history};
 use crate::objects::{Objects, target};
-use crate::parent_ids::ParentIds;
-use crate::parents::Parents;
 use crate::starts::Starts;
 use crate::store::Store;
 use fetch_base::{NoMemory, ObjectId, ObjectKind, StoreError, TryClone, copy_slice};
+use fetch_objects::{Object, ObjectRef, ParentIds, Parents, read_history};
 use std::alloc::Global;
 use std::marker::Model;
 

@@ -4,12 +4,12 @@ ghost use Rattle.std.specs.Prelude.{◌≡◌, IfOk, option_map};
 ghost use Rattle.std.specs.FinMap as map;
 ghost use Rattle.std.specs.Option.{option_copied};
 ghost use Rattle.fetch_store.specs.Indexes.{IsIndex, IsIndexOf};
-ghost use Rattle.fetch_store.specs.References.{seen};
+ghost use Rattle.fetch_objects.specs.References.{seen};
 ghost use Rattle.fetch_base.specs.Id.{id_cmp};
 
 use crate::fronts::{find_by_front, places_by_front};
-use crate::object::{Object, ObjectRef};
 use fetch_base::{NoMemory, ObjectId};
+use fetch_objects::{Object, ObjectRef};
 use std::alloc::Global;
 use std::collections::BTreeMap;
 

@@ -6,9 +6,9 @@ ghost use Rattle.std.specs.FinMap as map;
 ghost use Rattle.fetch_store.specs.Iter.{left, shown};
 
 use crate::buffer::lend;
-use crate::object::ObjectRef;
 use crate::store_iter::StoreIter;
 use fetch_base::ObjectId;
+use fetch_objects::ObjectRef;
 
 impl<'a> Iterator for StoreIter<'a> {
     type Item = (ObjectId, ObjectRef<'a>);

@@ -1,4 +1,4 @@
-//! Git's objects: their grammar, and a store of them.
+//! A store of Git's objects, and graphs, borders and walks of them.
 #![tactic(auto)]
 
 mod border;
@@ -6,16 +6,12 @@ mod buffer;
 mod collisions;
 mod entries;
 mod fronts;
-mod grammar;
 mod graph;
 mod index;
 mod iter;
 pub mod laws;
 mod missing;
-mod object;
 mod objects;
-mod parent_ids;
-mod parents;
 mod reach;
 mod span;
 mod starts;
@@ -31,12 +27,11 @@ pub use fetch_base::{
     id_of, is_decimal, same_id, split_first, split_last,
 };
 pub use fetch_files::{FileError, Files, MemoryFiles, Node, TreeNode};
+pub use fetch_objects::{Links, Object, ObjectRef, Parents};
 pub use fronts::are_apart;
 pub use graph::Graph;
 pub use missing::{Missing, first_missing};
-pub use object::{Links, Object, ObjectRef};
 pub use objects::Objects;
-pub use parents::Parents;
 pub use reach::reached;
 pub use store::Store;
 pub use store_iter::StoreIter;

@@ -5,13 +5,13 @@ ghost use Rattle.std.specs.FinMap as map;
 ghost use Rattle.fetch_store.specs.Closed as closed;
 ghost use Rattle.fetch_store.specs.Closed.{IsClosed, holding};
 ghost use Rattle.fetch_store.specs.Missing as spec;
-ghost use Rattle.fetch_store.specs.References.{seen, ids_left};
+ghost use Rattle.fetch_objects.specs.References.{seen, ids_left};
 ghost use Rattle.fetch_store.specs.Stores.{ObjectMap};
 
 use crate::border::Border;
-use crate::object::{Links, ObjectRef};
 use crate::store::Store;
 use fetch_base::{ObjectId, StoreError};
+use fetch_objects::{Links, ObjectRef};
 
 /// A link, and what it leads to.
 #[derive(Clone, Copy, Debug, PartialEq, Eq)]

@@ -4,14 +4,14 @@ ghost use Rattle.std.specs.Prelude.{◌≡◌, [], option_map};
 ghost use Rattle.std.specs.FinMap as map;
 ghost use Rattle.std.specs.List.{slice_get};
 ghost use Rattle.std.specs.Option.{option_and_then, option_map_or};
-ghost use Rattle.fetch_store.specs.Graph.{Graph, graph_of, is_commit_at, target_of};
-ghost use Rattle.fetch_store.specs.Objects as spec;
-ghost use Rattle.fetch_store.specs.References.{seen, parents_left};
+ghost use Rattle.fetch_store.specs.Graph.{Graph, graph_of, is_commit_at};
+ghost use Rattle.fetch_objects.specs.Objects.{target_of};
+ghost use Rattle.fetch_objects.specs.Objects as spec;
+ghost use Rattle.fetch_objects.specs.References.{seen, parents_left};
 
-use crate::object::ObjectRef;
-use crate::parents::Parents;
 use crate::store::Store;
 use fetch_base::{ObjectId, ObjectKind};
+use fetch_objects::{ObjectRef, Parents};
 
 /// Objects by id, however they are kept.
 pub trait Objects {

@@ -8,15 +8,15 @@ ghost use Rattle.fetch_base.specs.declared.id.ObjectId.{ObjectId as Id};
 ghost use Rattle.fetch_store.specs.Closed.{Reached, holding, links_at};
 ghost use Rattle.fetch_store.specs.Found.{with_each};
 ghost use Rattle.fetch_store.specs.Marks.{AreMarked, ids_at, is_among};
-ghost use Rattle.fetch_store.specs.References.{ids_left};
+ghost use Rattle.fetch_objects.specs.References.{ids_left};
 ghost use Rattle.fetch_store.specs.Spread.{next_to, nexts_in};
 ghost use Rattle.fetch_base.specs.Id.{id_cmp};
 
 use crate::border::Border;
 use crate::missing::links_within;
-use crate::object::Links;
 use crate::store::Store;
 use fetch_base::{List, NoMemory, ObjectId, Steps};
+use fetch_objects::Links;
 use std::alloc::Global;
 use std::sync::ledger::Ledger;
 

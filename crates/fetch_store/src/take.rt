@@ -6,16 +6,16 @@ ghost use Rattle.std.specs.FinSet as set;
 ghost use Rattle.fetch_store.specs.Borders.{merged};
 ghost use Rattle.fetch_store.specs.Closed.{holding};
 ghost use Rattle.fetch_store.specs.Missing as spec;
-ghost use Rattle.fetch_store.specs.References.{pack_of};
+ghost use Rattle.fetch_store.specs.Honest.{pack_of};
 ghost use Rattle.fetch_store.specs.Stores.{add_all};
 ghost use Rattle.fetch_base.specs.Id.{id_cmp};
 
 use crate::border::{Border, border_from};
 use crate::index::{Index, find_in_index, index_of};
 use crate::missing::{Held, Missing, first_unheld, first_unknown, first_unstored, links_within};
-use crate::object::{Object, ObjectRef};
 use crate::store::Store;
 use fetch_base::{NoMemory, ObjectId};
+use fetch_objects::{Object, ObjectRef};
 use std::alloc::Global;
 use std::marker::Model;
 
@@ -70,7 +70,7 @@ struct Joined<'a> {
 
 impl<'a> Model for Joined<'a> {
     ghost use Rattle.std.specs.FinMap as map;
-    ghost use Rattle.fetch_store.specs.Codes.{coded_id, coded_stored};
+    ghost use Rattle.fetch_objects.specs.Codes.{coded_id, coded_stored};
     ghost use Rattle.fetch_store.specs.Indexes.{IsIndex};
     ghost use Rattle.fetch_store.specs.Stores.{ObjectMap, add_all};
     ghost use Rattle.fetch_base.specs.Id.{id_cmp};

@@ -3,7 +3,7 @@
 ghost use Rattle.std.specs.Prelude.{◌≡◌, ◌+◌, MatchOption};
 ghost use Rattle.std.specs.Iterator.{YieldsFirst};
 ghost use Rattle.std.specs.Option.{option_map};
-ghost use Rattle.fetch_store.specs.References.{parents_left};
+ghost use Rattle.fetch_objects.specs.References.{parents_left};
 ghost use Rattle.fetch_update.specs.Dated.{commit_at, seconds_in};
 
 use fetch_store::{ObjectId, Objects, Parents, Steps};

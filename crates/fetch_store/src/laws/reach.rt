@@ -4,7 +4,7 @@ ghost use Rattle.std.specs.Prelude.{◌≡◌, ◌⊎◌, ◌↔◌, ◌+◌, �
 ghost use Rattle.std.specs.FinMap as map;
 ghost use Rattle.std.specs.FinSet as set;
 ghost use Rattle.fetch_base.specs.declared.id.ObjectId.{ObjectId};
-ghost use Rattle.fetch_store.specs.Objects.{Stored};
+ghost use Rattle.fetch_objects.specs.Objects.{Stored};
 ghost use Rattle.fetch_store.specs.Closed.{Grows, Holding, IsClosed, IsStored, Reached, links_within};
 ghost use Rattle.fetch_store.specs.Spread.{Nexts, IsOneOn, IsWithin, nexts_in};
 

@@ -4,7 +4,7 @@ ghost use Rattle.std.specs.Prelude.{◌≡◌, ◌⊎◌, ◌↔◌, None, Some}
 ghost use Rattle.std.specs.FinMap as map;
 ghost use Rattle.fetch_base.specs.declared.id.ObjectId.{ObjectId};
 ghost use Rattle.fetch_store.specs.Collisions.{AreAtOne, IsFirstToDiffer};
-ghost use Rattle.fetch_store.specs.Objects.{Stored};
+ghost use Rattle.fetch_objects.specs.Objects.{Stored};
 ghost use Rattle.fetch_store.specs.Stores.{Entries, ObjectMap, add_all, collision, first_some};
 ghost use Rattle.fetch_base.specs.Id.{id_cmp};
 

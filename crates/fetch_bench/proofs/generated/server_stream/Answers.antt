@@ -1,5 +1,5 @@
 use Rattle.std.proofs.Common.{refl, ◌+◌, ◌-◌, ◌/◌, subst, sym, arith, List}
-use Rattle.fetch_store.specs.Objects.{Stored}
+use Rattle.fetch_objects.specs.Objects.{Stored}
 use Rattle.fetch_pack.specs.Records.{Fits, payloads_of}
 use Rattle.fetch_pack.specs.declared.version.PackVersion.TheVariants.{V1}
 use Rattle.fetch_bench.proofs.Halves.{in_two_steps, commits_fit, stream_if}

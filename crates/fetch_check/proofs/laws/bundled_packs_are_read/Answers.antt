@@ -1,5 +1,5 @@
 use Rattle.std.proofs.Common.{List, ap, ◌∙◌}
-use Rattle.fetch_store.specs.Objects.{Stored}
+use Rattle.fetch_objects.specs.Objects.{Stored}
 use Rattle.fetch_pack.specs.Reading.{read}
 use Rattle.fetch_pack.specs.Records.{pack_text, payloads_of}
 use Rattle.fetch_pack.specs.declared.version.PackVersion.TheVariants.{V2}

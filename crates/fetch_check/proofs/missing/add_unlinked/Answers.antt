@@ -3,7 +3,7 @@ use Rattle.std.specs.Prelude.{if◌then◌else◌}
 use Rattle.fetch_store.specs.Closed.{others, links, links_within}
 use Rattle.fetch_store.specs.Iter.{left}
 use Rattle.fetch_store.specs.Missing.{unstored, unlinked_in}
-use Rattle.fetch_store.specs.References.{seen}
+use Rattle.fetch_objects.specs.References.{seen}
 use Rattle.fetch_check.specs.Pairs.{with_pairs, pairs_of}
 use Rattle.fetch_check.proofs.Firsts.{with_both_links}
 use Rattle.fetch_check.proofs.missing.add_unlinked.Goals as goal

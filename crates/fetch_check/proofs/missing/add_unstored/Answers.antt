@@ -1,5 +1,5 @@
 use Rattle.std.proofs.Common.{false, sym, ◌∙◌}
-use Rattle.fetch_store.specs.References.{ids_left}
+use Rattle.fetch_objects.specs.References.{ids_left}
 use Rattle.fetch_check.proofs.Firsts.{added, next_link}
 use Rattle.fetch_check.proofs.missing.add_unstored.Goals as goal
 

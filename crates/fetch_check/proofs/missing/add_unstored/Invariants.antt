@@ -1,5 +1,5 @@
 use Rattle.std.proofs.Common.{◌≡◌, length}
-use Rattle.fetch_store.specs.References.{ids_left}
+use Rattle.fetch_objects.specs.References.{ids_left}
 use Rattle.fetch_store.specs.Missing.{unstored}
 use Rattle.fetch_check.specs.Pairs.{pairs_of, with_pairs}
 use Rattle.fetch_check.proofs.missing.add_unstored.Given as goal

@@ -1,7 +1,7 @@
 use Rattle.std.proofs.Common.{List, ◌++◌, [], ◌∷◌, sym, ap, ◌∙◌, append_assoc}
 use Rattle.std.proofs.lemmas.List.{append-nil}
 use Rattle.fetch_base.specs.declared.id.ObjectId.{ObjectId}
-use Rattle.fetch_store.specs.References.{parents_left}
+use Rattle.fetch_objects.specs.References.{parents_left}
 use Rattle.fetch_negotiate.proofs.commits.parents.Goals as goal
 
 pub loop-parent-preserved : goal.loop-parent-preserved

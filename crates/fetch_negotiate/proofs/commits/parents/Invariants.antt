@@ -1,5 +1,5 @@
 use Rattle.std.proofs.Common.{◌≡◌, ◌++◌, length}
-use Rattle.fetch_store.specs.References.{parents_left}
+use Rattle.fetch_objects.specs.References.{parents_left}
 use Rattle.fetch_negotiate.specs.Commits.{parents_in}
 use Rattle.fetch_negotiate.proofs.commits.parents.Given as goal
 

@@ -1,7 +1,7 @@
 use Rattle.std.proofs.Common.{◌≡◌, [], length, drop, sym, ◌∙◌, arith}
 use Rattle.std.proofs.lemmas.List.{same_lists, get_or-map, length-map, take_at}
 use Rattle.fetch_base.specs.declared.object_kind.ObjectKind.TheVariants.{Blob}
-use Rattle.fetch_store.specs.Objects.{Stored}
+use Rattle.fetch_objects.specs.Objects.{Stored}
 use Rattle.fetch_pack.specs.Reading.{hashed, ids_of}
 use Rattle.fetch_pack.proofs.hashing.hash_pieces.Goals as goal
 

@@ -3,7 +3,7 @@ use Rattle.fetch_base.specs.declared.id.Kind.TheVariants.{Sha1}
 use Rattle.fetch_base.specs.declared.id.ObjectId.{ObjectId}
 use Rattle.fetch_base.specs.declared.id.ObjectId.TheVariants as ids
 use Rattle.fetch_base.specs.declared.object_kind.ObjectKind.TheVariants.{Blob}
-use Rattle.fetch_store.specs.Objects.{Stored}
+use Rattle.fetch_objects.specs.Objects.{Stored}
 use Rattle.fetch_pack.specs.Places.{IsPlace}
 use Rattle.fetch_pack.proofs.kept.find_kept.Goals as goal
 

@@ -2,7 +2,7 @@ use Rattle.std.proofs.Common.{◌≡◌, ◌<◌, ℕ, List, ◌++◌, length, t
 use Rattle.std.specs.List.{flat_map}
 use Rattle.std.proofs.lemmas.List.{append-nil, length-map, take_all}
 use Rattle.std.proofs.lemmas.List.Elements.{All-from_recursion}
-use Rattle.fetch_store.specs.Objects.{Stored}
+use Rattle.fetch_objects.specs.Objects.{Stored}
 use Rattle.fetch_pack.specs.Records.{limit_of, head_of, record_text, payload_of, payloads_of, under_its_id, under_their_ids}
 use Rattle.fetch_pack.specs.Texts.{Keeps}
 use Rattle.fetch_pack.proofs.Growing.{keeps_front, objects_fit}

@@ -1,7 +1,7 @@
 use Rattle.std.proofs.Common.{◌∙◌, sym, subst, All}
 use Rattle.std.specs.FinMap.{entries, get-entries}
 use Rattle.fetch_base.specs.declared.id.ObjectId.{ObjectId}
-use Rattle.fetch_store.specs.Objects.{Stored, IsObject}
+use Rattle.fetch_objects.specs.Objects.{Stored, IsObject}
 use Rattle.fetch_store.proofs.Lists.{All-find}
 use Rattle.fetch_reach.proofs.OwnIds.{mapped}
 use Rattle.fetch_reach.proofs.naming.stored_objects_are_objects.Goals as goal

@@ -6,8 +6,8 @@ use Rattle.std.proofs.lemmas.List.{append-nil, length-map, take_all}
 use Rattle.std.proofs.lemmas.List.Elements.{All-contains}
 use Rattle.fetch_base.specs.declared.id.ObjectId.{ObjectId}
 use Rattle.fetch_base.specs.declared.id.ObjectId.TheVariants.{Sha1}
-use Rattle.fetch_store.specs.Objects.{Stored}
-use Rattle.fetch_store.specs.References.{seen}
+use Rattle.fetch_objects.specs.Objects.{Stored}
+use Rattle.fetch_objects.specs.References.{seen}
 use Rattle.fetch_pack.specs.Records.{head_of, record_text, limit_of, payload_of, payloads_of, under_its_id, under_their_ids}
 use Rattle.fetch_pack.specs.Texts.{Keeps}
 use Rattle.fetch_pack.proofs.Growing.{keeps_front}

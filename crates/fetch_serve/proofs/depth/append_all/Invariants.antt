@@ -1,5 +1,5 @@
 use Rattle.std.proofs.Common.{◌≡◌, ◌++◌, length}
-use Rattle.fetch_store.specs.References.{parents_left}
+use Rattle.fetch_objects.specs.References.{parents_left}
 use Rattle.fetch_serve.proofs.depth.append_all.Given as goal
 
 abbrev pub invariant-loop-parent : goal.invariant-loop-parent

@@ -1,6 +1,6 @@
 use Rattle.std.proofs.Common.{◌≡◌, ◌++◌, length, filter}
 use Rattle.fetch_store.specs.Graph.{graph_of}
-use Rattle.fetch_store.specs.References.{parents_left}
+use Rattle.fetch_objects.specs.References.{parents_left}
 use Rattle.fetch_serve.specs.Depths.{may_be_kept}
 use Rattle.fetch_serve.proofs.depth.append_passing.Given as goal
 

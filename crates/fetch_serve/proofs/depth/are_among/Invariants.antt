@@ -1,6 +1,6 @@
 use Rattle.std.proofs.Common.{◌≡◌, length}
 use Rattle.std.specs.List.{list_all}
-use Rattle.fetch_store.specs.References.{parents_left}
+use Rattle.fetch_objects.specs.References.{parents_left}
 use Rattle.fetch_asked.specs.Requests.{has_id}
 use Rattle.fetch_serve.proofs.depth.are_among.Given as goal
 

@@ -5,8 +5,8 @@ use Rattle.std.specs.BTreeMap as tree
 use Rattle.std.specs.Option.{option_copied}
 use Rattle.fetch_store.specs.Stores.{Entries, add_all, collision, first_some}
 use Rattle.fetch_base.specs.Id.{id_cmp}
-use Rattle.fetch_store.specs.Objects.{Stored}
-use Rattle.fetch_store.specs.References.{seen}
+use Rattle.fetch_objects.specs.Objects.{Stored}
+use Rattle.fetch_objects.specs.References.{seen}
 use Rattle.fetch_store.proofs.Additions.{collision_at}
 use Rattle.fetch_store.proofs.Finds.{is_some-mapped}
 use Rattle.fetch_store.proofs.Indexed.{Indexes, held, known_stays, new_indexed, taken_more}

@@ -1,7 +1,7 @@
 use Rattle.std.proofs.Common.{Bool, Some, sym, ap, ◌∙◌, cond, take, drop, ◌+◌}
 use Rattle.std.specs.Prelude.{option_map}
 use Rattle.std.specs.FinMap.{get}
-use Rattle.fetch_store.specs.References.{seen}
+use Rattle.fetch_objects.specs.References.{seen}
 use Rattle.fetch_store.specs.Stores.{add_all, collision, first_some}
 use Rattle.fetch_store.proofs.Additions.{collision_at, last_none}
 use Rattle.fetch_store.proofs.Apart.{first_time}

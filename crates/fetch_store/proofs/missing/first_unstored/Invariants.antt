@@ -1,6 +1,6 @@
 use Rattle.std.proofs.Common.{◌≡◌, length}
 use Rattle.std.specs.Prelude.{slice_get}
-use Rattle.fetch_store.specs.References.{ids_left}
+use Rattle.fetch_objects.specs.References.{ids_left}
 use Rattle.fetch_store.specs.Missing.{unstored}
 use Rattle.fetch_store.proofs.missing.first_unstored.Given as goal
 

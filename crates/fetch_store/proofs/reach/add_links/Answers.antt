@@ -3,7 +3,7 @@ use Rattle.std.specs.FinMap.{contains_key, keys}
 use Rattle.fetch_base.specs.declared.id.ObjectId.{ObjectId}
 use Rattle.fetch_store.specs.Found.{with_each}
 use Rattle.fetch_store.specs.Marks.{ids_at}
-use Rattle.fetch_store.specs.References.{ids_left}
+use Rattle.fetch_objects.specs.References.{ids_left}
 use Rattle.fetch_store.proofs.Walking.{looked_up}
 use Rattle.fetch_store.proofs.reach.add_links.Goals as goal
 

@@ -2,7 +2,7 @@ use Rattle.std.proofs.Common.{◌≡◌, ◌+◌, ◌≤◌, filter, length}
 use Rattle.std.specs.FinMap.{contains_key, keys}
 use Rattle.fetch_store.specs.Found.{with_each}
 use Rattle.fetch_store.specs.Marks.{AreMarked, ids_at}
-use Rattle.fetch_store.specs.References.{ids_left}
+use Rattle.fetch_objects.specs.References.{ids_left}
 use Rattle.fetch_store.proofs.reach.add_links.Given as goal
 
 abbrev pub invariant-links : goal.invariant-links

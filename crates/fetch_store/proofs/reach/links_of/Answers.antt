@@ -1,6 +1,6 @@
 use Rattle.std.proofs.Common.{sym, ap, ◌∙◌}
 use Rattle.fetch_store.specs.Closed.{holding}
-use Rattle.fetch_store.specs.References.{ids_left, seen}
+use Rattle.fetch_objects.specs.References.{ids_left, seen}
 use Rattle.fetch_store.specs.Spread.{next_to, nexts_in}
 use Rattle.fetch_store.proofs.Marking.{listed_next}
 use Rattle.fetch_store.proofs.reach.links_of.Goals as goal

@@ -7,7 +7,7 @@ use Rattle.fetch_base.specs.declared.id.ObjectId.TheVariants.{Sha1}
 use Rattle.fetch_store.specs.Closed.{holding}
 use Rattle.fetch_store.specs.Found.{there, with_each}
 use Rattle.fetch_store.specs.Marks.{ids_at}
-use Rattle.fetch_store.specs.References.{ids_left}
+use Rattle.fetch_objects.specs.References.{ids_left}
 use Rattle.fetch_store.specs.Spread.{next_to, nexts_in}
 use Rattle.fetch_store.proofs.Marking.{keys-len}
 use Rattle.fetch_store.proofs.Walking.{all_reached, ascends, begins, goes_on, looked, looked_up, more, there_stored}

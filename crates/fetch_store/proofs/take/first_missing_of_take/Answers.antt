@@ -2,7 +2,7 @@ use Rattle.std.proofs.Common.{Option, Some, None, ap, ap₂, ◌∙◌}
 use Rattle.std.specs.Prelude.{slice_get}
 use Rattle.fetch_store.specs.declared.missing.Missing.{Missing}
 use Rattle.fetch_store.specs.Closed.{holding}
-use Rattle.fetch_store.specs.References.{pack_of}
+use Rattle.fetch_store.specs.Honest.{pack_of}
 use Rattle.fetch_store.specs.Missing.{unheld_in, unlinked_in, unknown_in, orphaned_in}
 use Rattle.fetch_store.proofs.Takes.{first_of, first_told}
 use Rattle.fetch_store.proofs.take.first_missing_of_take.Goals as goal

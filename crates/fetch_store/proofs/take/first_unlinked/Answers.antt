@@ -1,7 +1,7 @@
 use Rattle.std.proofs.Common.{◌≡◌, ap, ap₂, ◌∙◌}
 use Rattle.std.specs.Prelude.{if◌then◌else◌, slice_get}
-use Rattle.fetch_store.specs.References.{ids_left}
-use Rattle.fetch_store.specs.Objects.{Stored}
+use Rattle.fetch_objects.specs.References.{ids_left}
+use Rattle.fetch_objects.specs.Objects.{Stored}
 use Rattle.fetch_store.specs.Closed.{links, others, links_within}
 use Rattle.fetch_store.specs.Missing.{unstored}
 use Rattle.fetch_store.proofs.Firsts.{from, found_first, passed_first}

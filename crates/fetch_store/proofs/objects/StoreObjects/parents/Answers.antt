@@ -1,7 +1,7 @@
 use Rattle.std.proofs.Common.{[], Some, None, sym, ap, ◌∙◌}
 use Rattle.std.specs.Option.{option_map_or}
 use Rattle.fetch_store.specs.Graph.{Node}
-use Rattle.fetch_store.specs.References.{seen}
+use Rattle.fetch_objects.specs.References.{seen}
 use Rattle.fetch_store.proofs.Graphs.{at}
 use Rattle.fetch_store.proofs.objects.StoreObjects.parents.Goals as goal
 

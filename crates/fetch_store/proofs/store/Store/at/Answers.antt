@@ -5,7 +5,7 @@ use Rattle.std.proofs.lemmas.List.{get_or_default, get_or-map}
 use Rattle.fetch_base.specs.declared.id.ObjectId.{ObjectId}
 use Rattle.fetch_store.specs.declared.span.Span.{Span}
 use Rattle.fetch_store.specs.Buffers.{lent}
-use Rattle.fetch_store.specs.Objects.{Stored}
+use Rattle.fetch_objects.specs.Objects.{Stored}
 use Rattle.fetch_store.specs.Stores.{Entries, StoreValue}
 use Rattle.fetch_base.specs.Id.{id_cmp}
 use Rattle.fetch_store.proofs.Arranged.{consistent_in_order, order_of}

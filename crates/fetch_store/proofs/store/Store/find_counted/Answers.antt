@@ -1,8 +1,8 @@
 use Rattle.std.proofs.Common.{◌≡◌, ◌≤◌, ◌+◌, ◌*◌, ◌^◌, List, ℕ, length, Some, sym, ap, subst, ◌∙◌}
 use Rattle.std.specs.Prelude.{option_map}
 use Rattle.std.specs.FinMap.{get, find, len}
-use Rattle.fetch_store.specs.Objects.{Stored, IsObject}
-use Rattle.fetch_store.specs.References.{seen}
+use Rattle.fetch_objects.specs.Objects.{Stored, IsObject}
+use Rattle.fetch_objects.specs.References.{seen}
 use Rattle.fetch_store.specs.Stores.{StoreValue}
 use Rattle.fetch_base.specs.Id.{id_cmp}
 use Rattle.fetch_store.specs.Buffers.{Index, lent}

@@ -4,7 +4,7 @@ use Rattle.std.specs.FinMap.{contains_key, find, get, keys, len}
 use Rattle.fetch_base.specs.declared.id.ObjectId.{ObjectId}
 use Rattle.fetch_store.specs.declared.span.Span.{Span}
 use Rattle.fetch_store.specs.Buffers.{Index, lent}
-use Rattle.fetch_store.specs.Objects.{Stored}
+use Rattle.fetch_objects.specs.Objects.{Stored}
 use Rattle.fetch_store.specs.Stores.{Entries, StoreValue}
 use Rattle.fetch_base.specs.Id.{id_cmp}
 use Rattle.fetch_store.proofs.Buffers.{entries-lent, get-lent, ids-lent, len-lent}

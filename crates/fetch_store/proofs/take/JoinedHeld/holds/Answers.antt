@@ -2,8 +2,8 @@ use Rattle.std.proofs.Common.{◌≡◌, true, false, Option, Some, None, refl, 
 use Rattle.std.specs.Prelude.{is_some}
 use Rattle.std.specs.FinMap.{find, get, contains_key}
 use Rattle.fetch_base.specs.declared.id.ObjectId.{ObjectId}
-use Rattle.fetch_store.specs.Objects.{Stored}
-use Rattle.fetch_store.specs.References.{seen}
+use Rattle.fetch_objects.specs.Objects.{Stored}
+use Rattle.fetch_objects.specs.References.{seen}
 use Rattle.fetch_store.specs.Stores.{Entries, ObjectMap, add_all, first_some}
 use Rattle.fetch_base.specs.Id.{id_cmp}
 use Rattle.fetch_store.proofs.Additions.{get-add_all}

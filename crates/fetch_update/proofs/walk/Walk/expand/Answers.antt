@@ -1,5 +1,5 @@
 use Rattle.std.proofs.Common.{◌≡◌, ◌≢◌, true, ◌∷◌, [], length, ap, subst, ◌∙◌, arith}
-use Rattle.fetch_store.specs.References.{parents_left}
+use Rattle.fetch_objects.specs.References.{parents_left}
 use Rattle.fetch_update.specs.Dated.{parents_at}
 use Rattle.fetch_update.specs.Walks.{State, state, has, Grows}
 use Rattle.fetch_update.proofs.Expansions.{grows_then, one_of, passed_more, passed_all}

@@ -1,5 +1,5 @@
 use Rattle.std.proofs.Common.{◌≡◌, ◌≢◌, ◌+◌, ◌≤◌, true, length}
-use Rattle.fetch_store.specs.References.{parents_left}
+use Rattle.fetch_objects.specs.References.{parents_left}
 use Rattle.fetch_update.specs.Dated.{parents_at}
 use Rattle.fetch_update.specs.Walks.{state, has, Grows, room, work}
 use Rattle.fetch_update.proofs.Expansions.{Passed}

@@ -1,0 +1,8 @@
+use Rattle.std.proofs.Common.{sym}
+use Rattle.fetch_objects.specs.Objects.{first_of}
+use Rattle.fetch_objects.proofs.Silent.{no_seconds, quiet_at_first}
+use Rattle.fetch_objects.proofs.object.ObjectRef.seconds.Goals as goal
+
+pub returns-in-Tree : goal.returns-in-Tree
+returns-in-Tree c =
+    let o = c.args.self.now in sym (no_seconds o.hash (first_of o.kind) o.bytes.now (quiet_at_first o.kind c.in-Tree.is))

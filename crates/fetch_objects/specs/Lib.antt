@@ -1,0 +1,9 @@
+pub mod Grammar
+pub mod Objects
+pub mod Steps
+pub mod References
+pub mod Codes
+pub mod Texts
+pub mod TreeTexts
+pub mod CommitTexts
+pub mod Places

@@ -1,5 +1,0 @@
-use Rattle.fetch_store.proofs.Places.{breaks_at}
-use Rattle.fetch_store.proofs.laws.texts.a_place_is_where_the_grammar_breaks.Goals as goal
-
-pub returns : goal.returns
-returns c = breaks_at

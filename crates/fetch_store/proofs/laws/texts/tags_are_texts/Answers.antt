@@ -1,5 +1,0 @@
-use Rattle.fetch_store.proofs.TagTexts.{tags_are_texts}
-use Rattle.fetch_store.proofs.laws.texts.tags_are_texts.Goals as goal
-
-pub returns : goal.returns
-returns c = tags_are_texts

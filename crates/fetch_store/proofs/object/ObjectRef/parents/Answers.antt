@@ -1,8 +1,0 @@
-use Rattle.std.proofs.Common.{sym, ◌∙◌}
-use Rattle.fetch_store.specs.Objects.{first_of}
-use Rattle.fetch_store.proofs.Silent.{no_parents, quiet_at_first}
-use Rattle.fetch_store.proofs.object.ObjectRef.parents.Goals as goal
-
-pub returns-in-Tree : goal.returns-in-Tree
-returns-in-Tree c =
-    let o = c.args.self.now in c.no_ids.ensures ∙ sym (no_parents o.hash (first_of o.kind) o.bytes.now (quiet_at_first o.kind c.in-Tree.is))
