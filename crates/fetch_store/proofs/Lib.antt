@@ -22,6 +22,7 @@ pub mod Firsts
 pub mod Takes
 pub mod GraphsAdded
 pub mod Extended
+pub mod Appended
 pub mod Viewed
 pub mod Merging
 pub mod Buffers
