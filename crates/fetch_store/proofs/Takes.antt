@@ -22,15 +22,11 @@ first_of_lists : (a b c d : List Missing) → head (a ++ (b ++ c ++ d)) ≡ firs
 first_of_lists a b c d =
     first-append a (b ++ c ++ d) ∙ ap (option_or (head a)) (first-append (b ++ c) d ∙ ap (λ x. option_or x (head d)) (first-append b c))
 
+pub first_listed : (a b c d : List Missing) (x : Option Missing) → x ≡ first_of (head a) (head b) (head c) (head d) → x ≡ head (a ++ (b ++ c ++ d))
+first_listed a b c d x is = is ∙ sym (first_of_lists a b c d)
+
 -- over a map and a border that are those after the take
 pub first_told : (h : Holding) (wants : List ObjectId) (pack : Pack) (m : ObjectMap) (b : IdSet) (x : Option Missing) → m ≡ (taken h pack).objects → b ≡ (taken h pack).border
-    → x ≡ first_of (head (unheld_in m wants)) (head (unlinked_in m b pack.objects)) (head (unknown_in m pack.shallow)) (head (orphaned_in m pack.unshallow)) → x ≡ head (missing h wants pack)
+    → x ≡ head (unheld_in m wants ++ (unlinked_in m b pack.objects ++ unknown_in m pack.shallow ++ orphaned_in m pack.unshallow)) → x ≡ head (missing h wants pack)
 first_told h wants pack m b x objects border is =
-    is ∙ ap₂ (λ (n : ObjectMap) (c : IdSet). first_of (head (unheld_in n wants)) (head (unlinked_in n c pack.objects)) (head (unknown_in n pack.shallow)) (head (orphaned_in n pack.unshallow))) objects border
-    ∙ sym (first_of_lists (unheld_in n wants) (unlinked_in n c pack.objects) (unknown_in n pack.shallow) (orphaned_in n pack.unshallow))
-  where
-    n : ObjectMap
-    n = (taken h pack).objects
-
-    c : IdSet
-    c = (taken h pack).border
+    is ∙ ap₂ (λ (n : ObjectMap) (c : IdSet). head (unheld_in n wants ++ (unlinked_in n c pack.objects ++ unknown_in n pack.shallow ++ orphaned_in n pack.unshallow))) objects border

@@ -1,6 +1,6 @@
 //! What a take would leave missing.
 
-ghost use Rattle.std.specs.Prelude.{◌≡◌, IfOk, slice_get};
+ghost use Rattle.std.specs.Prelude.{◌≡◌, ◌++◌, IfOk, slice_get};
 ghost use Rattle.std.specs.FinMap as map;
 ghost use Rattle.std.specs.FinSet as set;
 ghost use Rattle.fetch_store.specs.Borders.{merged};
@@ -48,16 +48,28 @@ pub fn first_missing_of_take(
 {
     let held = Joined::new(alloc, store, take.objects)?;
     let border = MergedBorder::new(alloc, border, take.shallow, take.unshallow)?;
-    if let Some(missing) = first_unheld(&held, take.wants) {
-        return Ok(Some(missing));
+    Ok(first_missing_within(&held, &border, take))
+}
+
+/// The first link of a take that is missing within what is held with it, under the border after it.
+fn first_missing_within(
+    held: &Joined<'_>,
+    border: &MergedBorder<'_>,
+    take: &Take<'_>,
+) -> Option<Missing>
+    ensures { result ≡ slice_get (spec.unheld_in held.now take.now.wants.now ++ (spec.unlinked_in held.now border.now take.now.objects.now
+        ++ spec.unknown_in held.now take.now.shallow.now ++ spec.orphaned_in held.now take.now.unshallow.now)) 0 }
+{
+    if let Some(missing) = first_unheld(held, take.wants) {
+        return Some(missing);
     }
-    if let Some(missing) = first_unlinked(&held, &border, take.objects) {
-        return Ok(Some(missing));
+    if let Some(missing) = first_unlinked(held, border, take.objects) {
+        return Some(missing);
     }
-    if let Some(missing) = first_unknown(&held, take.shallow) {
-        return Ok(Some(missing));
+    if let Some(missing) = first_unknown(held, take.shallow) {
+        return Some(missing);
     }
-    Ok(first_orphaned(&held, take.unshallow))
+    first_orphaned(held, take.unshallow)
 }
 
 /// The objects of a store with those of a list. Contracts see the finite map.

@@ -1,34 +1,9 @@
-use Rattle.std.proofs.Common.{Option, Some, None, ap, ap₂, ◌∙◌}
-use Rattle.std.specs.Prelude.{slice_get}
-use Rattle.fetch_store.specs.declared.missing.Missing.{Missing}
 use Rattle.fetch_store.specs.Closed.{holding}
 use Rattle.fetch_store.specs.Honest.{pack_of}
-use Rattle.fetch_store.specs.Missing.{unheld_in, unlinked_in, unknown_in, orphaned_in}
-use Rattle.fetch_store.proofs.Takes.{first_of, first_told}
+use Rattle.fetch_store.proofs.Takes.{first_told}
 use Rattle.fetch_store.proofs.take.first_missing_of_take.Goals as goal
-
-pub returns-in-Some-first_unlinked : goal.returns-in-Some-first_unlinked
-returns-in-Some-first_unlinked c =
-    let take = c.args.take.now in
-    let m = c.in_ok-held.held in
-    let x : Option Missing = Some c.in-Some-first_unlinked.missing in
-    first_told (holding c.args.store.now.objects c.args.border.now) take.wants.now (pack_of take) m c.in_ok-border.border x c.in_ok-held.ensures c.in_ok-border.ensures
-    (ap₂ (λ a b. first_of a b (slice_get (unknown_in m take.shallow.now) 0) (slice_get (orphaned_in m take.unshallow.now) 0)) c.in_default.ensures c.in-Some-first_unlinked.ensures)
-
-pub returns-in-Some-first_unknown : goal.returns-in-Some-first_unknown
-returns-in-Some-first_unknown c =
-    let take = c.args.take.now in
-    let m = c.in_ok-held.held in
-    let x : Option Missing = Some c.in-Some-first_unknown.missing in
-    first_told (holding c.args.store.now.objects c.args.border.now) take.wants.now (pack_of take) m c.in_ok-border.border x c.in_ok-held.ensures c.in_ok-border.ensures
-    (ap₂ (λ a b. first_of a b x (slice_get (orphaned_in m take.unshallow.now) 0)) c.in_default.ensures c.in_default-first_unlinked.ensures
-    ∙ ap (λ o. first_of (slice_get (unheld_in m take.wants.now) 0) (slice_get (unlinked_in m c.in_ok-border.border take.objects.now) 0) o (slice_get (orphaned_in m take.unshallow.now) 0)) c.in-Some-first_unknown.ensures)
 
 pub returns : goal.returns
 returns c =
-    let take = c.args.take.now in
-    let m = c.in_ok-held.held in
-    let x : Option Missing = c.first_orphaned.result in
-    first_told (holding c.args.store.now.objects c.args.border.now) take.wants.now (pack_of take) m c.in_ok-border.border x c.in_ok-held.ensures c.in_ok-border.ensures
-    (ap₂ (λ a b. first_of a b None x) c.in_default.ensures c.in_default-first_unlinked.ensures
-    ∙ ap₂ (λ o p. first_of (slice_get (unheld_in m take.wants.now) 0) (slice_get (unlinked_in m c.in_ok-border.border take.objects.now) 0) o p) c.in_default-first_unknown.ensures c.first_orphaned.ensures)
+    first_told (holding c.args.store.now.objects c.args.border.now) c.args.take.now.wants.now (pack_of c.args.take.now) c.in_ok-held.held c.in_ok-border.border c.first_missing_within.result c.in_ok-held.ensures c.in_ok-border.ensures
+    c.first_missing_within.ensures
