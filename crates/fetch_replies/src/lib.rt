@@ -1,12 +1,10 @@
 //! The replies of a server: what each one tells, read line by line.
 #![tactic(auto)]
 
-mod cloning;
 mod greetings;
 mod listing;
 mod replies;
 
-pub use cloning::copy_slice;
 pub use listing::make_ref;
 pub use replies::haves::{Haves, each_once};
 pub use replies::reply::{ParsedReply, ReplyContext, ReplyError, ReplyKind};

@@ -8,9 +8,8 @@ ghost use Rattle.fetch_replies.specs.Advertisements.{with_peel, peeled_to};
 ghost use Rattle.fetch_replies.specs.Listings.{no_attributes, with_attribute, with_attributes, ref_with, id_or_unborn, named_by, ref_in};
 ghost use Rattle.fetch_replies.specs.Listings.{if_new, is_listed};
 
-use crate::cloning::copy_slice;
 use crate::greetings::advertisement::peeled_to;
-use fetch_base::{Kind, NoMemory, ObjectId, Text, after, digest, split_first};
+use fetch_base::{Kind, NoMemory, ObjectId, Text, after, copy_slice, digest, split_first};
 use fetch_lines::{Ref, next_word};
 use std::alloc::Global;
 use std::collections::BTreeSet;

@@ -2,13 +2,13 @@
 
 use crate::session::parameters::first_bad;
 use crate::session::turn::Turn;
-use fetch_base::{Kind, List, NoMemory, Text, TryClone};
+use fetch_base::{Kind, List, NoMemory, Text, TryClone, copy_slice};
 use fetch_lines::{
     FetchReply, Handshake, Ref, ReplyBound, Request, WireError, first_line, listing_request,
     write_line, write_lines,
 };
 use fetch_replies::{
-    FoundReply, Haves, ParsedReply, ReplyBuffer, ReplyContext, ReplyError, ReplyKind, copy_slice,
+    FoundReply, Haves, ParsedReply, ReplyBuffer, ReplyContext, ReplyError, ReplyKind,
 };
 use std::alloc::Global;
 use std::marker::Model;

@@ -9,9 +9,8 @@ ghost use Rattle.fetch_base.specs.Calls.{one_more, faults_of, risen_after};
 ghost use Rattle.fetch_wire.specs.Scripts.{given_of, pieces_from, from_first, first_of, without, talk_of, sends_failed, said_after};
 ghost use Rattle.fetch_wire.specs.Scripts.{IsListed};
 
-use fetch_base::{Calls, Failed, NoMemory, Text, copy_from};
+use fetch_base::{Calls, Failed, NoMemory, Text, copy_from, copy_slice};
 use fetch_lines::{Interrupt, Peer, SendFault};
-use fetch_replies::copy_slice;
 use opening_value::Openings;
 use std::alloc::Global;
 use std::marker::Model;
