@@ -39,13 +39,22 @@ pub enum HeadError {
     /// The ref name means no reference.
     Name(RefNameError),
     /// The name that it is to lead to is none.
-    InvalidHead { name: Text },
+    InvalidHead {
+        /// That name.
+        name: Text,
+    },
     /// The revision isn't mapped.
     Revision,
     /// The revision's object isn't stored.
-    Find { id: ObjectId },
+    Find {
+        /// The id that the revision is mapped to.
+        id: ObjectId,
+    },
     /// The revision's object doesn't lead to a commit.
-    Peel { id: ObjectId },
+    Peel {
+        /// The id that the revision is mapped to.
+        id: ObjectId,
+    },
     /// Memory ran out.
     NoMemory,
 }

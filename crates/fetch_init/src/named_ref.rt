@@ -28,7 +28,10 @@ pub enum RefNameError {
     /// None is called so.
     Missing,
     /// Several may be meant.
-    Ambiguous { candidates: List<Text> },
+    Ambiguous {
+        /// The names that it may mean, in the order of the mappings.
+        candidates: List<Text>,
+    },
     /// Memory ran out.
     NoMemory,
 }
