@@ -15,7 +15,7 @@ use Rattle.fetch_asked.specs.declared.asked.Asked.{Asked}
 use Rattle.fetch_asked.specs.declared.intake.Refusal.{Refusal}
 use Rattle.fetch_asked.specs.declared.intake.Refusal.TheVariants as refusals
 use Rattle.fetch_asked.specs.declared.reading.Reading.{Reading}
-use Rattle.fetch_asked.specs.Intakes.{IsRead, IsReadUpTo, IsShortBehind, IsWholeBehind, StopsAt, refusal_of, told_of}
+use Rattle.fetch_asked.specs.Intakes.{IsRead, IsReadUpTo, IsShortBehind, IsWholeBehind, StopsAt, refusal_of, resumed, told_of}
 use Rattle.fetch_asked.specs.Requests.{asked_step}
 use Rattle.fetch_asked.specs.Texts.{IsBegun, request_at, request_bound}
 
@@ -86,6 +86,14 @@ read_more hash begun bytes place (Some reading) piece h =
           ∙ ap (λ (b : List ℕ). read_by (asked_step hash) request_bound reading place b) (append_assoc (drop place bytes) piece more)
           ∙ h.told (piece ++ more) ∙ ap (request_at hash begun) (sym (append_assoc bytes piece more));
     }
+
+anew : (hash : Kind) (begun : Bool) (bytes : List ℕ) (place : ℕ) (reading : Option Reading) → IsRead hash begun bytes place reading → IsReadUpTo hash begun bytes (resumed begun place reading).0 (resumed begun place reading).1
+anew hash begun bytes place None h = record { within = omega arith; bounded = omega arith; told = λ more. refl }
+anew hash begun bytes place (Some reading) h = h
+
+-- what is read on from there was read up to there
+pub read_from : (hash : Kind) (begun : Bool) (bytes : List ℕ) (place : ℕ) (reading : Option Reading) (from : ℕ × Reading) → IsRead hash begun bytes place reading → from ≡ resumed begun place reading → IsReadUpTo hash begun bytes from.0 from.1
+read_from hash begun bytes place reading from h is = subst (λ (f : ℕ × Reading). IsReadUpTo hash begun bytes f.0 f.1) (sym is) (anew hash begun bytes place reading h)
 
 pub stops_read : (hash : Kind) (begun : Bool) (bytes : List ℕ) (place : ℕ) (reading : Reading) (refusal : Refusal) → IsReadUpTo hash begun bytes place reading → StopsAt (told_of hash bytes place reading []) refusal
     → StopsAt (request_at hash begun bytes) refusal

@@ -14,7 +14,7 @@ use Rattle.fetch_asked.specs.declared.intake.Progress.TheVariants.{On, Whole}
 use Rattle.fetch_asked.specs.declared.intake.Refusal.{Refusal}
 use Rattle.fetch_asked.specs.declared.intake.Refusal.TheVariants as refusals
 use Rattle.fetch_asked.specs.declared.reading.Reading.{Reading}
-use Rattle.fetch_asked.specs.Requests.{asked_step}
+use Rattle.fetch_asked.specs.Requests.{asked_step, start_of}
 use Rattle.fetch_asked.specs.Texts.{IsBegun, request_at, request_bound}
 
 -- a refusal, as a caller learns it
@@ -80,6 +80,11 @@ pub record IsReadUpTo (hash : Kind) (begun : Bool) (bytes : List ℕ) (place : �
 abbrev pub IsRead : Kind → Bool → List ℕ → ℕ → Option Reading → Type 0
 IsRead hash begun bytes place None = ⊤
 IsRead hash begun bytes place (Some reading) = IsReadUpTo hash begun bytes place reading
+
+-- where a request is read on: behind what was read of it, or at its start where nothing is known
+abbrev pub resumed : Bool → ℕ → Option Reading → ℕ × Reading
+resumed begun place None = (0, start_of begun)
+resumed begun place (Some reading) = (place, reading)
 
 -- the request that was found, and how many bytes it has, or that no request is whole
 abbrev pub Finds : Incoming → Option (Asked × ℕ) → Type 0

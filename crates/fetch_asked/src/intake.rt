@@ -1,7 +1,7 @@
 //! Requests, read while their bytes come in pieces.
 
 ghost use Rattle.std.specs.Prelude.{◌≡◌, ◌≤◌, drop, length, IfOk, IfErr};
-ghost use Rattle.fetch_asked.specs.Intakes.{error_of, is_memory, GoesTo, StopsAt, refusal_of, told_of};
+ghost use Rattle.fetch_asked.specs.Intakes.{error_of, is_memory, GoesTo, StopsAt, refusal_of, resumed, told_of};
 ghost use Rattle.fetch_asked.specs.Texts.{request_bound};
 ghost use Rattle.std.specs.Prelude.{List, ℕ};
 
@@ -118,6 +118,16 @@ fn read_on(
     }
 }
 
+/// Where a request is read on: behind what was read of it, or at its start where nothing is known.
+fn resumed(begun: bool, place: usize, reading: Option<Reading>) -> (usize, Reading)
+    ensures { result ≡ resumed begun place reading }
+{
+    match reading {
+        Some(reading) => (place, reading),
+        None => (0, Reading::start(begun)),
+    }
+}
+
 /// What was fed and isn't answered yet. Contracts see the hash, whether the first line of the conversation was answered,
 /// and the bytes.
 #[derive(Drop)]
@@ -129,7 +139,7 @@ pub struct Intake {
     start: usize,
     /// How many bytes its lines that were read have.
     place: usize,
-    /// What they tell. Nothing is known where memory ran out.
+    /// What they tell. Nothing is known after a refusal: the request is read anew then.
     reading: Option<Reading>,
 }
 
@@ -182,17 +192,15 @@ impl Intake {
     }
 
     /// The request that is whole, and how many bytes it has, where one is. It is refused where a line may not stand, where
-    /// digits announce too long a one, and where memory ran out.
+    /// digits announce too long a one, and where memory ran out; and so is each later read, until memory suffices.
     pub fn read(&mut self, alloc: Global) -> Result<Option<(Asked, usize)>, Refusal>
         ensures same { self.new ≡ self.old }
         ensures finds { IfOk result (λ found. Finds self.old found) }
         ensures stops { IfErr result (λ refusal. StopsAt (request_at self.old.hash self.old.begun self.old.pending) refusal) }
     {
-        let Some(reading) = self.reading.take() else {
-            return Err(Refusal::NoMemory);
-        };
+        let (from, reading) = resumed(self.begun, self.place, self.reading.take());
         let bytes = rest_at(&self.bytes, self.start);
-        let (progress, place) = match read_on(alloc, self.hash, bytes, self.place, reading) {
+        let (progress, place) = match read_on(alloc, self.hash, bytes, from, reading) {
             Ok(found) => found,
             Err(refusal) => return Err(refusal),
         };
@@ -217,7 +225,7 @@ impl Intake {
         self.reading = Some(Reading::start(true));
     }
 
-    /// Forgets all but the first bytes, of which nothing is read any more.
+    /// Forgets all but the first bytes, which are read anew.
     pub fn cut(&mut self, len: usize)
         requires { len ≤ length self.old.pending }
         ensures { self.new ≡ cut_to self.old len }
