@@ -1,6 +1,5 @@
 -- What each step of a clone's fetch makes of the calls before it.
 use Rattle.std.proofs.Common.{◌≡◌, ℕ, Bool, true, false, List, [], ◌∷◌, Option, Some, None, Result, Ok, Err, refl, inl, inr}
-use Rattle.std.specs.Bool.{OnFalse}
 use Rattle.std.specs.Prelude.{IfErr, IfOk, OnOk}
 use Rattle.fetch_base.specs.Faults.{Faults, Rose}
 use Rattle.fetch_files.specs.Trees.{Tree}
@@ -19,21 +18,15 @@ use Rattle.fetch_remote.specs.declared.fetching.outcome.Outcome.{Outcome}
 use Rattle.fetch_remote.specs.declared.fetching.prepared.Prepared.{Prepared}
 use Rattle.fetch_clone.specs.Counted.{Meters, IsCounted}
 use Rattle.fetch_clone.specs.Heeded.{IsHeededOver}
-use Rattle.fetch_init.specs.HeadUpdates.{IsToldAs}
-use Rattle.fetch_init.specs.NamedRefs.{is_memory, ref_named_in}
 use Rattle.fetch_clone.specs.Reached.{Ways, Line, IsTurnedAway, IsUnreached, line, turned_away}
 use Rattle.fetch_init.specs.Refusals.{connecting, listing}
-use Rattle.fetch_clone.specs.Received.{IsNotTaken, IsOfReceiving, IsReceived, IsTaken, IsUnmapped, IsUnreceived}
-use Rattle.fetch_init.specs.declared.head_target.HeadError.TheVariants as head_errors
+use Rattle.fetch_clone.specs.Received.{IsNotTaken, IsOfReceiving, IsReceived, IsTaken, IsUnreceived}
 use Rattle.fetch_clone.specs.declared.choices.CloneTarget.{CloneTarget}
-use Rattle.fetch_clone.specs.declared.choices.CloneTarget.TheVariants.{RefName}
 use Rattle.fetch_init.specs.declared.clone.fetch.Error.{Error}
 use Rattle.fetch_init.specs.declared.clone.fetch.Error.TheVariants as errors
 use Rattle.fetch_clone.specs.declared.clone_state.CloneState.{CloneState}
-use Rattle.fetch_init.specs.declared.named_ref.RefNameError.{RefNameError}
 use Rattle.fetch_clone.specs.declared.prepare_fetch.ConfigureFault.{ConfigureFault}
 use Rattle.fetch_clone.specs.declared.prepare_fetch.ConfigureFault.TheVariants as faults
-use Rattle.fetch_init.proofs.Headed.{forgotten, memory-told}
 use Rattle.fetch_clone.proofs.StepsCounted.{received-recounted}
 
 -- ---- peers
@@ -75,15 +68,6 @@ is-listing ref_map.Transport cause h = cc
 is-listing ref_map.Interrupted cause h = cc
 is-listing (ref_map.InitRefMap x) cause h = cc
 is-listing ref_map.NoMemory cause h = absurd cc
-
--- ---- what is mapped
-
-unmapped-by : (name : List ℕ) (map : RefMap) (cause : RefNameError) (e : Error) (b : Bool) → is_memory cause ≡ b → OnFalse b (ref_named_in map.mappings name ≡ Err cause) → IsToldAs (Some name) None (head_errors.Name cause) e → IsUnmapped (RefName name) map e
-unmapped-by name map cause e true m is told = inl (forgotten (Some name) None (head_errors.Name cause) e (memory-told (Some name) None (head_errors.Name cause) m) told)
-unmapped-by name map cause e false m is told = inr (cause, is, told)
-
-pub unmapped : (name : List ℕ) (map : RefMap) (cause : RefNameError) (e : Error) → OnFalse (is_memory cause) (ref_named_in map.mappings name ≡ Err cause) → IsToldAs (Some name) None (head_errors.Name cause) e → IsUnmapped (RefName name) map e
-unmapped name map cause e is told = unmapped-by name map cause e (is_memory cause) refl is told
 
 -- ---- what is taken
 

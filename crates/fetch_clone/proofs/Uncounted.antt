@@ -5,7 +5,7 @@ use Rattle.fetch_specs.specs.Specs.{Spec}
 use Rattle.fetch_map.specs.declared.mapping.RefMap.{RefMap}
 use Rattle.fetch_remote.specs.RepositoryValues.{State}
 use Rattle.fetch_clone.specs.Counted.{Meters, IsCounted}
-use Rattle.fetch_init.specs.HeadUpdates.{LacksHeadTarget, IsToldAs, told_as, wanting}
+use Rattle.fetch_init.specs.HeadUpdates.{LacksHeadTarget, IsToldAs, told_as}
 use Rattle.fetch_clone.specs.Planned.{Answering, IsUnchosen, IsUnnamed, IsUnoverridden}
 use Rattle.fetch_clone.specs.Targets.{told_again}
 use Rattle.fetch_init.specs.declared.head_target.HeadError.{HeadError}
@@ -122,10 +122,6 @@ choice-uncounted answers draft name target errors.NoMemory h = refl
 
 -- ---- what is aimed at
 
-sourced : (source : Option (List ℕ)) → is_uncounted (wanting source errors.RevisionMissing) ≡ true
-sourced None = refl
-sourced (Some t) = refl
-
 told-uncounted : (ref_name : Option (List ℕ)) (revision : Option Spec) (cause : HeadError) → is_uncounted (told_as ref_name revision cause) ≡ true
 told-uncounted None revision (head_errors.Name ref_name_errors.Missing) = refl
 told-uncounted (Some n) revision (head_errors.Name ref_name_errors.Missing) = refl
@@ -133,8 +129,7 @@ told-uncounted None revision (head_errors.Name (ref_name_errors.Ambiguous cs)) =
 told-uncounted (Some n) revision (head_errors.Name (ref_name_errors.Ambiguous cs)) = refl
 told-uncounted ref_name revision (head_errors.Name ref_name_errors.NoMemory) = refl
 told-uncounted ref_name revision (head_errors.InvalidHead name) = refl
-told-uncounted ref_name None head_errors.Revision = refl
-told-uncounted ref_name (Some s) head_errors.Revision = sourced s.source
+told-uncounted ref_name revision head_errors.Revision = refl
 told-uncounted ref_name revision (head_errors.Find id) = refl
 told-uncounted ref_name revision (head_errors.Peel id) = refl
 told-uncounted ref_name revision head_errors.NoMemory = refl

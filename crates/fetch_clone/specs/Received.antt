@@ -27,17 +27,13 @@ use Rattle.fetch_remote.specs.declared.repository.Resolved.{Resolved}
 use Rattle.fetch_remote.specs.declared.repository.open_error.OpenError.{OpenError}
 use Rattle.fetch_init.specs.HeadTargets.{revision_id}
 use Rattle.fetch_clone.specs.Hashed.{IsHashed, IsUnhashed}
-use Rattle.fetch_init.specs.HeadUpdates.{IsToldAs}
-use Rattle.fetch_init.specs.NamedRefs.{ref_named_in}
+use Rattle.fetch_init.specs.Mapped.{IsMeant, IsUnmappedRevision, IsUnmeant}
 use Rattle.fetch_init.specs.Refusals.{receiving, reopening}
-use Rattle.fetch_init.specs.declared.head_target.HeadError.TheVariants as head_errors
 use Rattle.fetch_clone.specs.declared.choices.CloneTarget.{CloneTarget}
 use Rattle.fetch_clone.specs.declared.choices.CloneTarget.TheVariants.{Everything, RefName, Revision}
 use Rattle.fetch_init.specs.declared.clone.fetch.Error.{Error}
 use Rattle.fetch_init.specs.declared.clone.fetch.Error.TheVariants as errors
 use Rattle.fetch_clone.specs.declared.clone_state.CloneState.{CloneState}
-use Rattle.fetch_init.specs.declared.named_ref.NamedRef.{NamedRef}
-use Rattle.fetch_init.specs.declared.named_ref.RefNameError.{RefNameError}
 
 -- ---- what is fetched by
 
@@ -62,15 +58,14 @@ given draft remote prepared setup = record { remote = remote; options = options_
 -- The ref name means one of the mapped references; the revision is mapped.
 abbrev pub IsMapped : CloneTarget → RefMap → Type 0
 IsMapped Everything map = ⊤
-IsMapped (RefName name) map = (found : NamedRef) × (ref_named_in map.mappings name ≡ Ok found)
+IsMapped (RefName name) map = IsMeant name map
 IsMapped (Revision spec) map = is_some (revision_id map spec) ≡ true
 
 -- Nothing that is mapped is meant by the ref name, or there are several; the revision isn't mapped.
 abbrev pub IsUnmappedFor : CloneTarget → RefMap → Error → Type 0
 IsUnmappedFor Everything map e = ⊥
-IsUnmappedFor (RefName name) map e = (cause : RefNameError) × (ref_named_in map.mappings name ≡ Err cause)
-    × IsToldAs (Some name) None (head_errors.Name cause) e
-IsUnmappedFor (Revision spec) map e = (revision_id map spec ≡ None) × IsToldAs None (Some spec) head_errors.Revision e
+IsUnmappedFor (RefName name) map e = IsUnmeant name map e
+IsUnmappedFor (Revision spec) map e = IsUnmappedRevision spec map e
 
 -- the same, unless memory ran out
 abbrev pub IsUnmapped : CloneTarget → RefMap → Error → Type 0

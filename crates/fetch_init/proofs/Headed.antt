@@ -1,5 +1,5 @@
 -- `HEAD` takes nothing, or takes what it is aimed at and then isn't saved.
-use Rattle.std.proofs.Common.{◌≡◌, ℕ, Bool, true, false, List, Option, Result, Ok, Err, inl, inr, refl, sym, subst, ◌∙◌}
+use Rattle.std.proofs.Common.{◌≡◌, ℕ, Bool, true, false, ◌&&◌, List, Option, Result, Ok, Err, inl, inr, refl, sym, ap, subst, ◌∙◌}
 use Rattle.std.specs.Prelude.{is_some, IfErr, IfSome, OnErr}
 use Rattle.fetch_files.specs.FileCalls.{IsRefused}
 use Rattle.fetch_files.specs.Paths.{parts_of}
@@ -12,8 +12,8 @@ use Rattle.fetch_specs.specs.Specs.{Spec}
 use Rattle.fetch_map.specs.declared.mapping.RefMap.{RefMap}
 use Rattle.fetch_remote.specs.Repositories.{state_of, setup_of}
 use Rattle.fetch_remote.specs.RepositoryValues.{RepositoryValue, Setup, State}
-use Rattle.fetch_init.specs.HeadTargets.{is_memory}
-use Rattle.fetch_init.specs.HeadUpdates.{FollowsIf, IsHeadUpdated, IsHeadRefusal, LacksHeadTarget, IsToldAs, IsUnsaved, IsWritten, head_target_of, followed, moved, told_as}
+use Rattle.fetch_init.specs.HeadTargets.{is_memory, takes_memory}
+use Rattle.fetch_init.specs.HeadUpdates.{FollowsIf, IsHeadUpdated, IsHeadRefusal, LacksHeadTarget, IsToldAs, IsUnsaved, IsWritten, head_target_of, followed, moved, takes_memory_to_tell, told_as}
 use Rattle.fetch_init.specs.declared.head_target.HeadTarget.{HeadTarget}
 use Rattle.fetch_init.specs.declared.head_target.HeadError.{HeadError}
 use Rattle.fetch_init.specs.declared.head_target.HeadError.TheVariants as head_errors
@@ -55,6 +55,15 @@ forgotten ref_name revision cause (errors.FindRevision x) m told = told ∙ m
 forgotten ref_name revision cause (errors.PeelRevision x) m told = told ∙ m
 forgotten ref_name revision cause errors.NoMemory m told = refl
 
+-- what takes memory to be told
+told-takes : (cause : HeadError) → takes_memory_to_tell cause ≡ true → takes_memory (Err cause) ≡ true
+told-takes (head_errors.Name e) takes = refl
+told-takes (head_errors.InvalidHead name) takes = refl
+told-takes head_errors.Revision takes = refl
+told-takes (head_errors.Find id) takes = takes
+told-takes (head_errors.Peel id) takes = takes
+told-takes head_errors.NoMemory takes = refl
+
 -- a refusal that is told as it is
 told-head_target : (s : State) (map : RefMap) (ref_name : Option (List ℕ)) (revision : Option Spec) (cause : HeadError) (e : Error) → head_target_of s map ref_name revision ≡ Err cause → IsToldAs ref_name revision cause e → LacksHeadTarget s map ref_name revision e
 told-head_target s map ref_name revision cause errors.Consumed is told = record { cause = cause; refused = is; as_told = told }
@@ -77,16 +86,19 @@ told-head_target s map ref_name revision cause (errors.ReopenWithObjectHash x) i
 told-head_target s map ref_name revision cause (errors.Fetch x) is told = record { cause = cause; refused = is; as_told = told }
 told-head_target s map ref_name revision cause (errors.FindRevision x) is told = record { cause = cause; refused = is; as_told = told }
 told-head_target s map ref_name revision cause (errors.PeelRevision x) is told = record { cause = cause; refused = is; as_told = told }
-told-head_target s map ref_name revision cause errors.NoMemory is told = tt
+told-head_target s map ref_name revision cause errors.NoMemory is told = ap takes_memory is ∙ told-takes cause told
 
-no-head_target-by : (s : State) (map : RefMap) (ref_name : Option (List ℕ)) (revision : Option Spec) (cause : HeadError) (e : Error) (b : Bool) → is_memory cause ≡ b → OnFalse b (head_target_of s map ref_name revision ≡ Err cause) → IsToldAs ref_name revision cause e
+no-head_target-by : (s : State) (map : RefMap) (ref_name : Option (List ℕ)) (revision : Option Spec) (cause : HeadError) (e : Error) (t m : Bool) → takes_memory (head_target_of s map ref_name revision) ≡ t → is_memory cause ≡ m
+    → OnFalse (t && m) (head_target_of s map ref_name revision ≡ Err cause) → IsToldAs ref_name revision cause e
     → LacksHeadTarget s map ref_name revision e
-no-head_target-by s map ref_name revision cause e true m is told = subst (LacksHeadTarget s map ref_name revision) (sym (forgotten ref_name revision cause e (memory-told ref_name revision cause m) told)) tt
-no-head_target-by s map ref_name revision cause e false m is told = told-head_target s map ref_name revision cause e is told
+no-head_target-by s map ref_name revision cause e true true takes memory is told = subst (LacksHeadTarget s map ref_name revision) (sym (forgotten ref_name revision cause e (memory-told ref_name revision cause memory) told)) takes
+no-head_target-by s map ref_name revision cause e true false takes memory is told = told-head_target s map ref_name revision cause e is told
+no-head_target-by s map ref_name revision cause e false m takes memory is told = told-head_target s map ref_name revision cause e is told
 
-pub no-head_target : (s : State) (map : RefMap) (ref_name : Option (List ℕ)) (revision : Option Spec) (cause : HeadError) (e : Error) → OnFalse (is_memory cause) (head_target_of s map ref_name revision ≡ Err cause) → IsToldAs ref_name revision cause e
-    → LacksHeadTarget s map ref_name revision e
-no-head_target s map ref_name revision cause e is told = no-head_target-by s map ref_name revision cause e (is_memory cause) refl is told
+pub no-head_target : (s : State) (map : RefMap) (ref_name : Option (List ℕ)) (revision : Option Spec) (cause : HeadError) (e : Error) → OnFalse (takes_memory (head_target_of s map ref_name revision) && is_memory cause) (head_target_of s map ref_name revision ≡ Err cause)
+    → IsToldAs ref_name revision cause e → LacksHeadTarget s map ref_name revision e
+no-head_target s map ref_name revision cause e is told =
+    no-head_target-by s map ref_name revision cause e (takes_memory (head_target_of s map ref_name revision)) (is_memory cause) refl refl is told
 
 -- Nothing has changed.
 pub not-find_head_target : (may_fail : Bool) (told : Option Tree) (repo : RepositoryValue) (map : RefMap) (message remote : List ℕ) (ref_name : Option (List ℕ)) (revision : Option Spec) (e : Error) → LacksHeadTarget (state_of repo) map ref_name revision e

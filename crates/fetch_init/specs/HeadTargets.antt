@@ -5,6 +5,7 @@ use Rattle.std.specs.FinMap as finmap
 use Rattle.std.specs.Option.{option_and_then}
 use Rattle.std.specs.Str.{bytes_eq}
 use Rattle.fetch_store.specs.Graph.{Graph, is_commit_at}
+use Rattle.fetch_base.specs.Answers.{AnswersUnless}
 use Rattle.fetch_base.specs.declared.id.ObjectId.{ObjectId}
 use Rattle.fetch_specs.specs.Names.{is_full_name}
 use Rattle.fetch_specs.specs.Specs.{Spec}
@@ -106,6 +107,22 @@ abbrev pub is_memory : HeadError → Bool
 is_memory head_errors.NoMemory = true
 is_memory (head_errors.Name e) = Rattle.fetch_init.specs.NamedRefs.is_memory e
 is_memory e = false
+
+-- whether memory is taken to find or to tell it: for a name, or for what was wanted and isn't there
+abbrev pub takes_memory : Result HeadTarget HeadError → Bool
+takes_memory (Ok Nothing) = false
+takes_memory (Ok (Id id)) = false
+takes_memory (Ok (Name name id)) = true
+takes_memory (Err (head_errors.Name e)) = true
+takes_memory (Err (head_errors.InvalidHead name)) = true
+takes_memory (Err head_errors.Revision) = true
+takes_memory (Err (head_errors.Find id)) = false
+takes_memory (Err (head_errors.Peel id)) = false
+takes_memory (Err head_errors.NoMemory) = true
+
+-- what is found and told, but for want of memory where some is taken
+abbrev pub IsFound : Result HeadTarget HeadError → Result HeadTarget HeadError → Type 0
+IsFound expected result = AnswersUnless (λ e. takes_memory expected && is_memory e) expected result
 
 -- ---- the edits
 

@@ -1,5 +1,5 @@
 -- A repository whose `HEAD` takes what a remote listed.
-use Rattle.std.specs.Prelude.{◌≡◌, ℕ, Bool, List, [], Option, Some, None, IfSome, Result, Ok, Err, ⊤, ◌⊎◌}
+use Rattle.std.specs.Prelude.{◌≡◌, ℕ, Bool, true, false, List, [], Option, Some, None, IfSome, unwrap_or, Result, Ok, Err, ⊤, ◌⊎◌}
 use Rattle.std.specs.Option.{option_map}
 use Rattle.fetch_files.specs.FileCalls.{IsRefused}
 use Rattle.fetch_store.specs.Graph.{graph_of}
@@ -18,7 +18,7 @@ use Rattle.fetch_remote.specs.Remotes.{RemoteValue}
 use Rattle.fetch_remote.specs.Repositories.{state_of, setup_of, with_refs, reopened, resolved_of}
 use Rattle.fetch_remote.specs.RepositoryValues.{State, Setup, RepositoryValue}
 use Rattle.fetch_remote.specs.declared.find.existing.Error.{Error as FindError}
-use Rattle.fetch_init.specs.HeadTargets.{head_target_in, edits_of}
+use Rattle.fetch_init.specs.HeadTargets.{head_target_in, edits_of, takes_memory}
 use Rattle.fetch_create.specs.Creation.{TellsStill}
 use Rattle.fetch_create.specs.Upstreams.{following}
 use Rattle.fetch_init.specs.declared.head_target.HeadTarget.{HeadTarget}
@@ -99,10 +99,10 @@ abbrev pub wanting : Option (List ℕ) → (List ℕ → Error) → Error
 wanting None e = errors.NoMemory
 wanting (Some wanted) e = e wanted
 
--- the source of a revision
-abbrev pub source_of : Option Spec → Option (List ℕ)
-source_of None = None
-source_of (Some revision) = revision.source
+-- the text that a revision is told with: its source, which is empty where it has none
+abbrev pub source_of : Option Spec → List ℕ
+source_of None = []
+source_of (Some revision) = unwrap_or revision.source []
 
 -- how a refusal to aim is told: a ref name and a revision with what was wanted
 abbrev pub told_as : Option (List ℕ) → Option Spec → HeadError → Error
@@ -111,14 +111,23 @@ told_as ref_name revision (head_errors.Name (ref_name_errors.Ambiguous candidate
     wanting ref_name (λ wanted. errors.RefNameAmbiguous wanted candidates)
 told_as ref_name revision (head_errors.Name ref_name_errors.NoMemory) = errors.NoMemory
 told_as ref_name revision (head_errors.InvalidHead name) = errors.InvalidHeadRef name
-told_as ref_name revision head_errors.Revision = wanting (source_of revision) errors.RevisionMissing
+told_as ref_name revision head_errors.Revision = errors.RevisionMissing (source_of revision)
 told_as ref_name revision (head_errors.Find id) = errors.FindRevision id
 told_as ref_name revision (head_errors.Peel id) = errors.PeelRevision id
 told_as ref_name revision head_errors.NoMemory = errors.NoMemory
 
--- told so, unless memory ran out
+-- whether a refusal is told with a copy of what was wanted, or is out of memory itself
+abbrev pub takes_memory_to_tell : HeadError → Bool
+takes_memory_to_tell (head_errors.Name e) = true
+takes_memory_to_tell (head_errors.InvalidHead name) = false
+takes_memory_to_tell head_errors.Revision = true
+takes_memory_to_tell (head_errors.Find id) = false
+takes_memory_to_tell (head_errors.Peel id) = false
+takes_memory_to_tell head_errors.NoMemory = true
+
+-- told so, unless memory ran out for that
 abbrev pub IsToldAs : Option (List ℕ) → Option Spec → HeadError → Error → Type 0
-IsToldAs ref_name revision cause errors.NoMemory = ⊤
+IsToldAs ref_name revision cause errors.NoMemory = takes_memory_to_tell cause ≡ true
 IsToldAs ref_name revision cause errors.SaveConfigIo = ⊥
 IsToldAs ref_name revision cause e = e ≡ told_as ref_name revision cause
 
@@ -135,9 +144,9 @@ pub record HasNoHeadTarget (s : State) (map : RefMap) (ref_name : Option (List �
   pub refused : head_target_of s map ref_name revision ≡ Err cause
   pub as_told : e ≡ told_as ref_name revision cause
 
--- the same, unless memory ran out
+-- the same, or memory ran out, where some is taken
 abbrev pub LacksHeadTarget : State → RefMap → Option (List ℕ) → Option Spec → Error → Type 0
-LacksHeadTarget s map ref_name revision errors.NoMemory = ⊤
+LacksHeadTarget s map ref_name revision errors.NoMemory = takes_memory (head_target_of s map ref_name revision) ≡ true
 LacksHeadTarget s map ref_name revision errors.SaveConfigIo = ⊥
 LacksHeadTarget s map ref_name revision e = HasNoHeadTarget s map ref_name revision e
 

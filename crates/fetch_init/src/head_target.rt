@@ -2,7 +2,6 @@
 
 ghost use Rattle.std.specs.Prelude.{◌≡◌, ◌++◌, ◌∷◌, [], codes, find, Err, IfOk, OnOk};
 ghost use Rattle.std.specs.Option.{option_copied};
-ghost use Rattle.fetch_base.specs.Answers.{AnswersUnless};
 ghost use Rattle.fetch_refs.specs.Peeled.{through};
 ghost use Rattle.std.specs.FinMap as finmap;
 ghost use Rattle.fetch_init.specs.HeadTargets as spec;
@@ -79,7 +78,7 @@ pub(crate) fn head_target_of<O: Objects>(
     ref_name: Option<&PartialName>,
     revision: Option<&RefSpec>,
 ) -> Result<HeadTarget, HeadError>
-    ensures { AnswersUnless spec.is_memory (spec.head_target_in map.now (O.graph objects.now) (option_copied ref_name.entry)
+    ensures { spec.IsFound (spec.head_target_in map.now (O.graph objects.now) (option_copied ref_name.entry)
         (option_copied revision.entry)) result }
 {
     if let Some(revision) = revision {
@@ -105,7 +104,7 @@ fn is_head(reference: &Ref) -> bool
 }
 
 fn of_advertised(alloc: Global, head: Option<&Ref>) -> Result<HeadTarget, HeadError>
-    ensures { AnswersUnless spec.is_memory (spec.of_advertised (option_copied head.entry)) result }
+    ensures { spec.IsFound (spec.of_advertised (option_copied head.entry)) result }
 {
     match head {
         None => Ok(HeadTarget::Nothing),
@@ -119,7 +118,7 @@ fn of_advertised(alloc: Global, head: Option<&Ref>) -> Result<HeadTarget, HeadEr
 }
 
 fn of_name(alloc: Global, map: &RefMap, name: &PartialName) -> Result<HeadTarget, HeadError>
-    ensures { AnswersUnless spec.is_memory (spec.of_named_ref (ref_named_in map.now.mappings name.now)) result }
+    ensures { spec.IsFound (spec.of_named_ref (ref_named_in map.now.mappings name.now)) result }
 {
     match ref_named(alloc, map.mappings.as_slice(), name) {
         Ok(found) => at_name(alloc, found.name.as_bytes(), Some(found.id)),
@@ -129,7 +128,7 @@ fn of_name(alloc: Global, map: &RefMap, name: &PartialName) -> Result<HeadTarget
 
 /// A name that `HEAD` can have.
 fn at_name(alloc: Global, name: &[u8], id: Option<ObjectId>) -> Result<HeadTarget, HeadError>
-    ensures { AnswersUnless spec.is_memory (spec.at_name name.now id) result }
+    ensures { spec.IsFound (spec.at_name name.now id) result }
 {
     match FullName::new(alloc, name) {
         Ok(name) => Ok(HeadTarget::Name { name, id }),
@@ -191,7 +190,7 @@ pub fn is_same_side(a: Option<&[u8]>, b: Option<&[u8]>) -> bool
 
 /// The commit that a stored id leads to.
 fn of_id<O: Objects>(objects: &O, id: Option<ObjectId>) -> Result<HeadTarget, HeadError>
-    ensures { AnswersUnless spec.is_memory (spec.of_id (O.graph objects.now) id) result }
+    ensures { result ≡ spec.of_id (O.graph objects.now) id }
 {
     let Some(id) = id else {
         return Err(HeadError::Revision);

@@ -86,7 +86,7 @@ pub fn find_head_target(
 }
 
 /// How a refusal to aim is told.
-pub fn refusal_of(
+pub(crate) fn refusal_of(
     alloc: Global,
     ref_name: Option<&PartialName>,
     revision: Option<&RefSpec>,
@@ -108,8 +108,8 @@ pub fn refusal_of(
             head_ref_name: name,
         },
         HeadError::Revision => match source_of(alloc, revision) {
-            Some(wanted) => Error::RevisionMissing { wanted },
-            None => Error::NoMemory,
+            Ok(wanted) => Error::RevisionMissing { wanted },
+            Err(_) => Error::NoMemory,
         },
         HeadError::Find { id } => Error::FindRevision { id },
         HeadError::Peel { id } => Error::PeelRevision { id },
@@ -127,15 +127,16 @@ fn copied(name: Option<&PartialName>) -> Option<PartialName>
     }
 }
 
-fn source_of(alloc: Global, revision: Option<&RefSpec>) -> Option<Text>
-    ensures { IfSome result (λ text. spec.source_of (option_copied revision.entry) ≡ Some text) }
+/// The text that a revision is told with.
+fn source_of(alloc: Global, revision: Option<&RefSpec>) -> Result<Text, NoMemory>
+    ensures { IfOk result (λ text. text ≡ spec.source_of (option_copied revision.entry)) }
 {
-    match revision {
-        Some(revision) => match revision.source() {
-            Some(source) => Text::new(alloc, source).ok(),
-            None => None,
-        },
-        None => None,
+    let Some(revision) = revision else {
+        return Text::new(alloc, b"");
+    };
+    match revision.source() {
+        Some(source) => Text::new(alloc, source),
+        None => Text::new(alloc, b""),
     }
 }
 

@@ -13,10 +13,9 @@ use crate::clone_state::CloneState;
 use crate::fetching::hashing::take_hash;
 use fetch_conversation::Progress;
 use fetch_init::clone::fetch::Error;
-use fetch_init::{HeadError, ref_named, refusal_of, revision_id};
+use fetch_init::{check_name, check_revision};
 use fetch_remote::phases::fetch_on;
 use fetch_remote::{Outcome, Prepared, Remote, Repository, Resolved};
-use fetch_specs::{PartialName, RefSpec};
 use fetch_store::{Files, NoMemory, Text};
 use fetch_update::{RefLogMessage, Worktrees};
 use fetch_wire::{Interrupt, Peer, RefMap};
@@ -123,25 +122,5 @@ fn check_mapped(alloc: Global, wanted: &CloneTarget, map: &RefMap) -> Result<(),
         CloneTarget::Everything => Ok(()),
         CloneTarget::RefName(name) => check_name(alloc, name, map),
         CloneTarget::Revision(revision) => check_revision(alloc, revision, map),
-    }
-}
-
-fn check_name(alloc: Global, name: &PartialName, map: &RefMap) -> Result<(), Error>
-    ensures ok { OnOk result (spec.IsMapped (CloneTarget.RefName name.now) map.now) }
-    ensures refused { IfErr result (spec.IsUnmapped (CloneTarget.RefName name.now) map.now) }
-{
-    match ref_named(alloc, map.mappings.as_slice(), name) {
-        Ok(_) => Ok(()),
-        Err(e) => Err(refusal_of(alloc, Some(name), None, HeadError::Name(e))),
-    }
-}
-
-fn check_revision(alloc: Global, revision: &RefSpec, map: &RefMap) -> Result<(), Error>
-    ensures ok { OnOk result (spec.IsMapped (CloneTarget.Revision revision.now) map.now) }
-    ensures refused { IfErr result (spec.IsUnmapped (CloneTarget.Revision revision.now) map.now) }
-{
-    match revision_id(map, revision) {
-        Some(_) => Ok(()),
-        None => Err(refusal_of(alloc, None, Some(revision), HeadError::Revision)),
     }
 }
