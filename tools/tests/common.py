@@ -1,36 +1,20 @@
 """What several checks of the tools need: the tools as they are called, and a pair of repositories."""
 
-import importlib.machinery
-import importlib.util
 import os
 import subprocess
-import sys
 import tempfile
 import unittest
 
-from realgit.pairs import Maker
-from realgit.repository import Repository
+from bagjulen_tools.paths import TOOLS
+from bagjulen_tools.repository.git import Repository
+from bagjulen_tools.trials.pairs import Maker
 
-HERE = os.path.dirname(os.path.abspath(__file__))
-TOOLS = os.path.dirname(HERE)
-DOUBLE = ["--engine", os.path.join(HERE, "double.py")]
+ENGINE_DOUBLE = os.path.join(TOOLS, "tests", "engine-double")
+KILLED_APPLY = os.path.join(TOOLS, "tests", "killed-apply")
+DOUBLE = ["--engine", ENGINE_DOUBLE]
 SPEC = "+refs/heads/main:refs/remotes/origin/main"
 CALLER = {"GIT_COMMITTER_NAME": "caller", "GIT_COMMITTER_EMAIL": "caller@x", "GIT_COMMITTER_DATE": "@9 +0100"}
 ALONE = {"GIT_CONFIG_NOSYSTEM": "1", "GIT_CONFIG_GLOBAL": os.devnull, **CALLER}
-
-
-def tool(name):
-    """A tool as a module."""
-    module = os.path.basename(name).replace("-", "_")
-    loader = importlib.machinery.SourceFileLoader(module, os.path.join(TOOLS, name))
-    found = importlib.util.module_from_spec(importlib.util.spec_from_loader(module, loader))
-    sys.modules[module] = found
-    wrote, sys.dont_write_bytecode = sys.dont_write_bytecode, True
-    try:
-        loader.exec_module(found)
-    finally:
-        sys.dont_write_bytecode = wrote
-    return found
 
 
 def run(tool, *words, behaviour="", given=b""):
@@ -62,7 +46,7 @@ class WithRepositories(unittest.TestCase):
 
     def report(self):
         with open(self.path("scene"), "rb") as scene, open(self.path("report"), "wb") as report:
-            subprocess.run([os.path.join(HERE, "double.py"), "fetch"], stdin=scene, stdout=report, check=True)
+            subprocess.run([ENGINE_DOUBLE, "fetch"], stdin=scene, stdout=report, check=True)
 
     def ids(self, repository):
         return sorted(each.id for each in Repository(repository).objects())

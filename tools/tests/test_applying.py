@@ -7,17 +7,17 @@ import tempfile
 import unittest
 from resource import RUSAGE_CHILDREN, getrusage
 
-from common import ALONE, HERE, SPEC, WithRepositories, run
-from realgit.applying import apply
-from realgit.client import scene_of
-from realgit.gitpack import store
-from realgit.lines import Mark, encoded
-from realgit.locks import LockedFile
-from realgit.plainpack import Object, object_id, write_pack
-from realgit.report import read_report
-from realgit.repository import Repository, git
-from realgit.scene import Scene, read_scene
-from realgit.trouble import CHANGED, GIT_REFUSED, Trouble, read_file, write_file
+from common import ALONE, KILLED_APPLY, SPEC, WithRepositories, run
+from bagjulen_tools.formats.gitpack import store
+from bagjulen_tools.formats.plainpack import Object, object_id, write_pack
+from bagjulen_tools.formats.report import read_report
+from bagjulen_tools.formats.scene import Scene, read_scene
+from bagjulen_tools.protocol.lines import Mark, encoded
+from bagjulen_tools.remote.client import scene_of
+from bagjulen_tools.repository.apply import apply
+from bagjulen_tools.repository.git import Repository, git
+from bagjulen_tools.repository.locks import LockedFile
+from bagjulen_tools.trouble import CHANGED, GIT_REFUSED, Trouble, read_file, write_file
 
 EMPTY_TREE_ID = "4b825dc642cb6eb9a060e54bf8d69288fbee4904"
 NULL = "0" * 40
@@ -247,7 +247,7 @@ class Killed(WithMoves):
 
     def kill(self, whom, step):
         """A run that is killed at a step. It is over when nobody holds its output any more."""
-        words = [os.path.join(HERE, "killed.py"), whom, step, self.path("scene"), self.path("report"), self.client]
+        words = [KILLED_APPLY, whom, step, self.path("scene"), self.path("report"), self.client]
         ended = subprocess.run(words, capture_output=True, env={**os.environ, **ALONE})
         return ended.returncode
 
@@ -266,7 +266,7 @@ class Killed(WithMoves):
             if FROM_MOVER in step:
                 with self.subTest(step):
                     self.again()
-                    self.assertEqual(self.kill("mover", step), 1)
+                    self.assertEqual(self.kill("mover", step), GIT_REFUSED)
                     if not step.endswith("references"):
                         self.assertEqual(self.references(), self.before)
                     self.assert_ends_well()

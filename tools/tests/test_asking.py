@@ -2,14 +2,14 @@
 
 import unittest
 
-from realgit.asking import Refused, Short, request_at
-from realgit.depths import Depth
-from realgit.lines import Mark, encoded, text_line
-from realgit.plainpack import Object, object_id, read_pack
-from realgit.plainserver import Plainserver, State
-from realgit.racing import TREE
-from realgit.replies import read_reply
-from realgit.stated import STATED
+from bagjulen_tools.formats.plainpack import Object, object_id, read_pack
+from bagjulen_tools.protocol.depth import Depth
+from bagjulen_tools.protocol.lines import Mark, encoded, text_line
+from bagjulen_tools.protocol.requests import IncompleteRequest, RefusedRequest, request_at
+from bagjulen_tools.trials.outcomes import OUTCOMES
+from bagjulen_tools.trials.plain_server import Plainserver, State
+from bagjulen_tools.trials.races import TREE
+from bagjulen_tools.trials.replies import read_reply
 
 FIRST = encoded(b"git-upload-pack /srv/a.git\0\0version=2\0")
 FRONT = "command=fetch", "object-format=sha1", "", "plain-pack-2"
@@ -57,16 +57,16 @@ class Read(unittest.TestCase):
                 ["deepen-not a", "deepen-since 1"], ["deepen 1", "deepen-since 1"], ["deepen-since 1", "deepen-relative"],
                 ["deepen-not "], ["deepen-not @"], ["deepen-not a..b"], ["deepen-not a*"], ["deepen 1", f"shallow {FOUR}"],
                 ["deepen 1", "include-tag"], [f"want {FIVE}", "deepen 1"], ["deepen-since 1", "done"]):
-            with self.subTest(last, front=front), self.assertRaises(Refused) as caught:
+            with self.subTest(last, front=front), self.assertRaises(RefusedRequest) as caught:
                 request_at(request(*front, last), "sha1", True)
             self.assertEqual(caught.exception.args, ("Malformed", len(request(*front, end=None))))
 
     def test_what_is_cut_and_what_ends_too_early(self):
         whole = request("deepen 1", f"want {FIVE}")
         for place in range(len(whole)):
-            self.assertRaises(Short, request_at, whole[:place], "sha1", True)
+            self.assertRaises(IncompleteRequest, request_at, whole[:place], "sha1", True)
         for words in (["deepen 1"], ["deepen 0"], ["deepen 1", "deepen-relative"], ["deepen-since 1"], ["deepen-not a"]):
-            with self.assertRaises(Refused) as caught:
+            with self.assertRaises(RefusedRequest) as caught:
                 request_at(request(*words), "sha1", True)
             self.assertEqual(caught.exception.args, ("Malformed", len(request(*words, end=None))))
 
@@ -113,7 +113,7 @@ class Given(unittest.TestCase):
     def test_forms_that_are_told(self):
         asked, given = b"plain-pack-2%0A0015deepen-since 1%0A0011deepen-not a%0A0032want 00", b"0011shallow-info%0A0001"
         text = b"= serve a\n? feed %b\ngives 30 %b" % (asked, given)
-        self.assertEqual(STATED["server"].names_in(text), {"deepen-since with deepen-not", "no moves"})
+        self.assertEqual(OUTCOMES["server"].names_in(text), {"deepen-since with deepen-not", "no moves"})
 
 
 if __name__ == "__main__":

@@ -5,16 +5,16 @@ import re
 import subprocess
 import unittest
 
-from common import ALONE, HERE, WithRepositories, run
-from realgit.applying import apply_bundle
-from realgit.bundle import Bundle, read_bundle
-from realgit.checking import references_of
-from realgit.grammar import MalformedObject, is_full_name, links_in
-from realgit.lines import encoded, pieces
-from realgit.locks import LockedFile
-from realgit.plainpack import Object, object_id, write_pack
-from realgit.repository import Repository, git
-from realgit.trouble import BAD_INPUT, BAD_WORDS, CHANGED, GIT_REFUSED, Trouble, read_file, write_file
+from common import ALONE, KILLED_APPLY, WithRepositories, run
+from bagjulen_tools.formats.bundle import Bundle, read_bundle
+from bagjulen_tools.formats.grammar import MalformedObject, is_full_name, links_in
+from bagjulen_tools.formats.plainpack import Object, object_id, write_pack
+from bagjulen_tools.protocol.lines import encoded, pieces
+from bagjulen_tools.repository.apply import apply_bundle
+from bagjulen_tools.repository.fsck import references_of
+from bagjulen_tools.repository.git import Repository, git
+from bagjulen_tools.repository.locks import LockedFile
+from bagjulen_tools.trouble import BAD_INPUT, BAD_WORDS, CHANGED, GIT_REFUSED, Trouble, read_file, write_file
 
 MAIN, SIDE, NOTE, LAST, HEAD = "refs/heads/main", "refs/heads/side", "refs/tags/note", "refs/remotes/origin/HEAD", "HEAD"
 PERSON = "A <a@x> 1 +0000"
@@ -413,7 +413,7 @@ class Killed(WithBundles):
     """A bundle, by runs that are killed."""
 
     def kill(self, whom, step):
-        words = [os.path.join(HERE, "killed.py"), whom, step, self.path("bundle"), self.made]
+        words = [KILLED_APPLY, whom, step, self.path("bundle"), self.made]
         return subprocess.run(words, capture_output=True, env={**os.environ, **ALONE}).returncode
 
     def test_the_tool_is_killed(self):
@@ -436,7 +436,7 @@ class Killed(WithBundles):
             for step in (each for each in STEPS if FROM_MOVER in each):
                 with self.subTest(step, branch=branch):
                     self.init("--bare", "-b", branch)
-                    self.assertEqual(self.kill("mover", step), 1)
+                    self.assertEqual(self.kill("mover", step), GIT_REFUSED)
                     self.assert_ends_well(bundle)
 
     def assert_ends_well(self, bundle):

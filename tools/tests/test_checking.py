@@ -4,11 +4,24 @@ import unittest
 from random import Random
 
 from common import DOUBLE, WithRepositories, run
-from realgit.checking import (BEHIND_TAGS, NO_BEGINNING, NO_BORDER, NOT_REACHED, ONE_LINK, UNBORN, UNEXPLAINED, Findings,
-                              differences, laid_out, read_state, told_by_engine, told_by_git)
-from realgit.damaging import Damage
-from realgit.repository import Repository
-from realgit.trouble import DIFFERENT, DONE, Trouble
+from bagjulen_tools.repository.fsck import (
+    BEHIND_TAGS,
+    NOT_REACHED,
+    NO_BEGINNING,
+    NO_BORDER,
+    ONE_LINK,
+    UNBORN,
+    UNEXPLAINED,
+    Findings,
+    differences,
+    laid_out,
+    read_state,
+    told_by_engine,
+    told_by_git,
+)
+from bagjulen_tools.repository.git import Repository
+from bagjulen_tools.trials.damage import Damage
+from bagjulen_tools.trouble import DIFFERENT, DONE, Trouble
 
 NO_ID = "f" * 40
 

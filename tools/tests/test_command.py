@@ -8,13 +8,13 @@ import subprocess
 import tempfile
 import time
 import unittest
+from http_backend import served
 
 from common import ALONE, TOOLS
-from http_backend import served
-from realgit.engine import BUILT
-from realgit.repository import Repository
-from realgit.telling import anonymous, trimmed
-from realgit.trouble import read_file
+from bagjulen_tools.engine import BUILT
+from bagjulen_tools.remote.messages import anonymous, trimmed
+from bagjulen_tools.repository.git import Repository
+from bagjulen_tools.trouble import read_file
 
 IS_BUILT = os.access(BUILT, os.X_OK)
 AUTHOR = {"GIT_AUTHOR_NAME": "A", "GIT_AUTHOR_EMAIL": "a@x", "GIT_COMMITTER_NAME": "A", "GIT_COMMITTER_EMAIL": "a@x"}

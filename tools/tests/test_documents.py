@@ -5,12 +5,9 @@ import re
 import tempfile
 import unittest
 
-from common import tool
-from realgit.rows import CRATES
-from realgit.trouble import Trouble, read_file
-
-CRATE_MAP, CALL_INDEX, DEFINITIONS = tool("dev/crate-map"), tool("dev/call-index"), tool("dev/definitions")
-DEAD_NAMES, DOC_SIZES, QUOTES = tool("dev/dead-names"), tool("dev/doc-sizes"), tool("dev/quotes")
+from bagjulen_tools.dev import call_index, crate_map, dead_names, definitions, doc_sizes, quotes
+from bagjulen_tools.paths import CRATES
+from bagjulen_tools.trouble import Trouble, read_file
 
 ROOT = """\
 mod line;
@@ -69,17 +66,17 @@ class InAFolder(unittest.TestCase):
 class CrateMap(InAFolder):
     def test_arrows_that_follow_are_left_out(self):
         write("./crates.txt", "# the store\nfetch_store: sha1\n# names\nfetch_specs: fetch_store\n# tests: all\nrows: fetch_store fetch_specs\n")
-        found = CRATE_MAP.crates()
+        found = crate_map.crates()
         self.assertEqual([(crate.name, crate.below, crate.is_test()) for crate in found],
                          [("fetch_store", [], False), ("fetch_specs", ["fetch_store"], False), ("rows", ["fetch_store", "fetch_specs"], True)])
-        self.assertEqual(list(CRATE_MAP.arrows(found)), [("fetch_specs", "fetch_store"), ("rows", "fetch_specs")])
+        self.assertEqual(list(crate_map.arrows(found)), [("fetch_specs", "fetch_store"), ("rows", "fetch_specs")])
 
 
 class CallIndex(InAFolder):
     def test_what_a_root_hands_out(self):
         for name, text in (("lib", ROOT), ("line", LINE), ("laws", LAWS)):
             write(f"crates/a/src/{name}.rt", text)
-        self.assertEqual(list(CALL_INDEX.rows_of("a")), [
+        self.assertEqual(list(call_index.rows_of("a")), [
             ("a", "laws::lines_are_the_text", "crates/a/src/laws.rt", "Each text is its lines"),
             ("a", "Line::text", "crates/a/src/line.rt", "The text"),
             ("a", "cut", "crates/a/src/line.rt", "Cuts a text into lines"),
@@ -90,14 +87,14 @@ class Definitions(InAFolder):
     def test_what_is_imported_is_counted_once(self):
         write("crates/a/specs/One.antt", "-- One.\nuse Rattle.a.specs.Two.{two}\nuse Rattle.std.specs.Prelude.{x}\n\none = two\n")
         write("crates/a/specs/Two.antt", "two = x\nthree = x\n")
-        below = DEFINITIONS.all_below("crates/a/specs/One.antt")
-        self.assertEqual((len(below), sum(map(DEFINITIONS.counted, below))), (2, 3))
+        below = definitions.all_below("crates/a/specs/One.antt")
+        self.assertEqual((len(below), sum(map(definitions.counted, below))), (2, 3))
 
 
 class Links(InAFolder):
     def test_a_link_leads_to_a_heading_and_to_a_name(self):
         write("./b.md", "# What it does, and what it doesn't\n`found`\n")
-        dead = [DEAD_NAMES.dead_link("a.md", shown, link) for shown, link in (
+        dead = [dead_names.dead_link("a.md", shown, link) for shown, link in (
             ("b", "b.md#what-it-does-and-what-it-doesnt"), ("b", "b.md#none"), ("`found`", "b.md"), ("`lost`", "b.md"), ("c", "c.md"))]
         self.assertEqual(dead, [None, "no heading b.md#none", None, "no name lost in b.md", "no file c.md"])
 
@@ -110,19 +107,19 @@ class Quotations(InAFolder):
         for what, kind, text in (
                 ("src/b.rt add", "rust", "/// Adds.\n#[inline]\npub(crate) fn add<T>(\n    t: T,\n) {\n    one();\n}\n"),
                 ("src/b.rt other", "rust", "fn other() {}\n"), ("stdout one", "text", "x\ny\n"), ("stdout one more", "text", "z\n")):
-            self.assertEqual(QUOTES.renewed(page.format(what, kind, "old\n")), page.format(what, kind, text))
+            self.assertEqual(quotes.renewed(page.format(what, kind, "old\n")), page.format(what, kind, text))
         write("./README.md", page.format("stdout one", "text", "x\n"))
-        self.assertEqual(list(QUOTES.differing()), [("README.md", page.format("stdout one", "text", "x\ny\n"))])
+        self.assertEqual(list(quotes.differing()), [("README.md", page.format("stdout one", "text", "x\ny\n"))])
 
     def test_what_is_quoted_has_to_be_there(self):
         write("crates/a/stdout", "= one\nx\n")
         for what in ("stdout two", "src/b.rt add"):
             with self.assertRaises(Trouble):
-                QUOTES.renewed(f"<!-- quoted: crates/a/{what} -->\n```\n```\n")
+                quotes.renewed(f"<!-- quoted: crates/a/{what} -->\n```\n```\n")
 
     def test_the_documents_quote_what_stands_there(self):
-        os.chdir(QUOTES.TOP)
-        self.assertEqual([page for page, _ in QUOTES.differing()], [])
+        os.chdir(quotes.TOP)
+        self.assertEqual([page for page, _ in quotes.differing()], [])
 
 
 class RowsNamed(unittest.TestCase):
@@ -152,12 +149,12 @@ class Sizes(unittest.TestCase):
                 ("crates/a/README.md", f"- `A::b`, `c`: {promise[2:]} (`c`)\n", []),
                 ("crates/a_rows/README.md", f"| a | {promise} |\n", []),
                 ("crates/a_rows/README.md", words, ["crates/a_rows/README.md: 901 words, where 900 may be"])):
-            self.assertEqual(list(DOC_SIZES.too_long(path, text)), found)
+            self.assertEqual(list(doc_sizes.too_long(path, text)), found)
 
     def test_what_is_quoted_is_counted(self):
         quoted = "<!-- quoted: crates/a/stdout one -->\n```text\n" + "x\n" * 110 + "```"
-        self.assertEqual(DOC_SIZES.count(f"| a | b |\n\n{quoted}\n"), 122)
-        self.assertEqual(list(DOC_SIZES.too_long("README.md", quoted)), ["README.md: 112 lines, where 110 may be"])
+        self.assertEqual(doc_sizes.count(f"| a | b |\n\n{quoted}\n"), 122)
+        self.assertEqual(list(doc_sizes.too_long("README.md", quoted)), ["README.md: 112 lines, where 110 may be"])
 
 
 if __name__ == "__main__":

@@ -7,7 +7,7 @@ import tempfile
 import unittest
 
 from common import run
-from realgit.trouble import write_file
+from bagjulen_tools.trouble import write_file
 
 FILES = {
     "crates.txt": "tiny:\n",

@@ -4,9 +4,7 @@ import os
 import tempfile
 import unittest
 
-from common import tool
-
-SURVEY, DEAD_NAMES = tool("dev/survey"), tool("dev/dead-names")
+from bagjulen_tools.dev import dead_names, survey
 
 CODE = """\
 //! A file.
@@ -150,38 +148,38 @@ pub record Line : Type 0 where
 
 class Survey(unittest.TestCase):
     def setUp(self):
-        self.lines = [SURVEY.Line(number, text) for number, text in enumerate(CODE.splitlines(), 1)]
+        self.lines = [survey.Line(number, text) for number, text in enumerate(CODE.splitlines(), 1)]
 
     def test_what_has_no_doc_comment(self):
-        found = [each.split(": ")[1].split()[0] for each in SURVEY.undocumented("a.rt", self.lines)]
+        found = [each.split(": ")[1].split()[0] for each in survey.undocumented("a.rt", self.lines)]
         self.assertEqual(found, ["receive", "Late", "Lost", "text"])
 
     def test_a_reason_stands_for_the_arguments(self):
-        self.assertEqual([each.partition(": ")[2] for _, each in SURVEY.functions("a.rt", self.lines)],
+        self.assertEqual([each.partition(": ")[2] for _, each in survey.functions("a.rt", self.lines)],
                          ["eight has 8 arguments", "nine has 9 arguments", "late has its output before the allocator"])
 
     def test_owning_types_that_cant_be_copied(self):
-        lines = [SURVEY.Line(number, text) for number, text in enumerate(TYPES.splitlines(), 1)]
-        copied = set(SURVEY.copied_in(lines))
+        lines = [survey.Line(number, text) for number, text in enumerate(TYPES.splitlines(), 1)]
+        copied = set(survey.copied_in(lines))
         self.assertEqual(copied, {"Copied", "Cloned"})
-        self.assertEqual([each.partition(": ")[2] for each in SURVEY.uncopied("a.rt", lines, copied)],
+        self.assertEqual([each.partition(": ")[2] for each in survey.uncopied("a.rt", lines, copied)],
                          ["Uncopied has no try_clone"])
 
     def test_wide_lines(self):
-        lines = [SURVEY.Line(1, "x" * 140), SURVEY.Line(2, "≡" * 141)]
-        self.assertEqual(list(SURVEY.wide("A.antt", lines)), ["A.antt:2: 141 columns"])
+        lines = [survey.Line(1, "x" * 140), survey.Line(2, "≡" * 141)]
+        self.assertEqual(list(survey.wide("A.antt", lines)), ["A.antt:2: 141 columns"])
 
     def test_definitions_without_a_comment(self):
-        lines = [SURVEY.Line(number, text) for number, text in enumerate(DEFINITIONS.splitlines(), 1)]
-        self.assertEqual(list(SURVEY.uncommented("A.antt", lines)), ["A.antt:9: Two has no comment"])
+        lines = [survey.Line(number, text) for number, text in enumerate(DEFINITIONS.splitlines(), 1)]
+        self.assertEqual(list(survey.uncommented("A.antt", lines)), ["A.antt:9: Two has no comment"])
 
 
     def test_what_a_contract_asks(self):
-        lines = [SURVEY.Line(number, text) for number, text in enumerate(CONTRACTS.splitlines(), 1)]
-        self.assertEqual(list(SURVEY.clauses_of("a.rt", lines)), [(["held", "cause"], "long", "a.rt"), ([], "short", "a.rt")])
-        self.assertEqual(SURVEY.code_lines(SURVEY.body_of(lines, 0)), 5)
-        lines = [SURVEY.Line(number, text) for number, text in enumerate(RECORDS.splitlines(), 1)]
-        self.assertEqual(list(SURVEY.records_of("A.antt", lines)), [(4, 2, "IsDone", "A.antt"), (0, 1, "Line", "A.antt")])
+        lines = [survey.Line(number, text) for number, text in enumerate(CONTRACTS.splitlines(), 1)]
+        self.assertEqual(list(survey.clauses_of("a.rt", lines)), [(["held", "cause"], "long", "a.rt"), ([], "short", "a.rt")])
+        self.assertEqual(survey.code_lines(survey.body_of(lines, 0)), 5)
+        lines = [survey.Line(number, text) for number, text in enumerate(RECORDS.splitlines(), 1)]
+        self.assertEqual(list(survey.records_of("A.antt", lines)), [(4, 2, "IsDone", "A.antt"), (0, 1, "Line", "A.antt")])
 
 
 class DeadNames(unittest.TestCase):
@@ -190,13 +188,13 @@ class DeadNames(unittest.TestCase):
             document = os.path.join(folder, "README.md")
             with open(document, "w", encoding="utf-8") as file:
                 file.write("`Peer::send`, `Peer::lost`, `lines/line.rt`, `lines/no.rt`\n    `example`\n[a](none.md) docs/no.md\n")
-            found = DEAD_NAMES.dead_in(document, ["crates/a/src/lines/line.rt"], {"Peer", "send"})
+            found = dead_names.dead_in(document, ["crates/a/src/lines/line.rt"], {"Peer", "send"})
             self.assertEqual([each.partition(":")[2] for each in found],
                              ["1: no name lost", "1: no file lines/no.rt", "3: no file none.md", "3: no file docs/no.md"])
 
     def test_the_documents(self):
         self.addCleanup(os.chdir, os.getcwd())
-        self.assertEqual(DEAD_NAMES.main([]), 0)
+        self.assertEqual(dead_names.main([]), 0)
 
 
 if __name__ == "__main__":

@@ -3,14 +3,14 @@
 import os
 import unittest
 
-from realgit.client import config_lines, quoted
-from realgit.lines import MalformedLine, Mark, encoded, placed_lines
-from realgit.plainpack import MalformedPack, Object, object_id, read_pack, write_pack
-from realgit.report import read_report
-from realgit.scene import read_scene
-from realgit.trouble import BAD_INPUT, Trouble, read_file
+from bagjulen_tools.formats.plainpack import MalformedPack, Object, object_id, read_pack, write_pack
+from bagjulen_tools.formats.report import read_report
+from bagjulen_tools.formats.scene import read_scene
+from bagjulen_tools.paths import TOP
+from bagjulen_tools.protocol.lines import MalformedLine, Mark, encoded, placed_lines
+from bagjulen_tools.remote.client import config_lines, quoted
+from bagjulen_tools.trouble import BAD_INPUT, Trouble, read_file
 
-TOP = os.path.join(os.path.dirname(__file__), "..", "..")
 COMMIT = b"tree 4b825dc642cb6eb9a060e54bf8d69288fbee4904\nauthor A <a@x> 1 +0000\ncommitter A <a@x> 1 +0000\n\none\n"
 EMPTY_TREE_ID = "4b825dc642cb6eb9a060e54bf8d69288fbee4904"
 COMMIT_ID = "bc6e39d85183dbf480419262896d4ffa452774ab"

@@ -4,20 +4,21 @@ import os
 import re
 import tempfile
 import unittest
-
-from realgit.attacking import OF_A_SIZE, announced
-from realgit.expecting import answer_of
-from realgit.feeding import Repositories, scene_of
-from realgit.finding import findings, mirrored, state_in
-from realgit.mutating import Mutator, raced, split_lines
-from realgit.plainpack import object_id
-from realgit.plainserver import State
-from realgit.racing import TREE, commit
-from realgit.rows import CRATES, rows, scenes
-from realgit.stated import STATED
-from realgit.trouble import read_file
-from realgit.trying import Ended, minimised
 from test_tools import DOUBLE, run
+
+from bagjulen_tools.formats.plainpack import object_id
+from bagjulen_tools.formats.rows import rows, scenes
+from bagjulen_tools.paths import CRATES
+from bagjulen_tools.trials.attacks import OF_A_SIZE, announced
+from bagjulen_tools.trials.expectations import answer_of
+from bagjulen_tools.trials.findings import findings, mirrored, state_in
+from bagjulen_tools.trials.mutation import Mutator, raced, split_lines
+from bagjulen_tools.trials.outcomes import OUTCOMES
+from bagjulen_tools.trials.plain_server import State
+from bagjulen_tools.trials.races import TREE, commit
+from bagjulen_tools.trials.random_input import Repositories, scene_of
+from bagjulen_tools.trials.runner import ProgramExit, minimised
+from bagjulen_tools.trouble import read_file
 
 SCENES = [scene for _, scene, _ in scenes()]
 REPORT = read_file(os.path.join(CRATES, "bagjulen", "stdout"))
@@ -25,7 +26,7 @@ TWO_JOBS = read_file(os.path.join(CRATES, "..", "examples", "two-jobs.race"))
 
 
 def ended(status, written, is_late=False, asked="fetch"):
-    return Ended(status, written, 0.0, 0, is_late, asked)
+    return ProgramExit(status, written, 0.0, 0, is_late, asked)
 
 
 class Made(unittest.TestCase):
@@ -146,7 +147,7 @@ class Faults(unittest.TestCase):
             self.assertEqual(ended(1, told.replace(b"a b", name), asked="check").names(), {"missing", "Depth"})
         text = b"= serve a\nrefused malformed line at byte 3 of the request\ngives 9 0042ERR want 00 not offered%0A\n"
         self.assertEqual(ended(0, text, asked="server").names(), {"Malformed", "want not offered"})
-        self.assertEqual({name for stated in STATED.values() for name in stated.names if not name}, set())
+        self.assertEqual({name for stated in OUTCOMES.values() for name in stated.names if not name}, set())
 
     def test_what_is_counted(self):
         self.assertEqual(ended(1, b"refused Malformed 5\n").word(), "status 1, Malformed")

@@ -3,13 +3,12 @@
 import os
 import unittest
 
-from common import DOUBLE, WithRepositories, run, tool
-from realgit.engine import Engine
-from realgit.mirroring import differences, mirrored_by_git, reached_ids
-from realgit.repository import Repository
-from realgit.trouble import BAD_INPUT, DIFFERENT, DONE
-
-COMPARE = tool("measure/compare-mirrors")
+from common import DOUBLE, WithRepositories, run
+from bagjulen_tools.engine import Engine
+from bagjulen_tools.measure import compare_mirrors
+from bagjulen_tools.remote.mirror import differences, mirrored_by_git, reached_ids
+from bagjulen_tools.repository.git import Repository
+from bagjulen_tools.trouble import BAD_INPUT, DIFFERENT, DONE
 
 
 class Mirroring(WithRepositories):
@@ -52,8 +51,8 @@ class Mirroring(WithRepositories):
         self.assert_line(self.mirrored(), BAD_INPUT, "is there already")
 
     def test_random_ones(self):
-        found, came = COMPARE.compared(0, "checks", Engine(DOUBLE[1]))
-        again = COMPARE.compared(0, "checks", Engine(DOUBLE[1]))
+        found, came = compare_mirrors.compared(0, "checks", Engine(DOUBLE[1]))
+        again = compare_mirrors.compared(0, "checks", Engine(DOUBLE[1]))
         self.assertEqual((found, came), again)
 
 

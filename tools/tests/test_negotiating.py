@@ -2,18 +2,25 @@
 
 import os
 import subprocess
-import sys
 import tempfile
 import unittest
 
-TOOLS = os.path.normpath(os.path.join(os.path.dirname(os.path.abspath(__file__)), ".."))
-sys.path.insert(0, TOOLS)
-
-from realgit.lines import Mark  # noqa: E402
-from realgit.negotiating import (Client, Skipping, commit, line_of, scene_of_line, tag, told, told_first,  # noqa: E402
-                                 windows_of, windows_traced)
-from realgit.rows import rows  # noqa: E402
-from realgit.scene import read_scene  # noqa: E402
+from bagjulen_tools.formats.rows import rows
+from bagjulen_tools.formats.scene import read_scene
+from bagjulen_tools.paths import TOOLS
+from bagjulen_tools.protocol.lines import Mark
+from bagjulen_tools.trials.haves import (
+    Client,
+    Skipping,
+    commit,
+    line_of,
+    scene_of_line,
+    tag,
+    told,
+    told_first,
+    windows_of,
+    windows_traced,
+)
 
 
 def tool(*words):

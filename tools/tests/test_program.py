@@ -7,8 +7,9 @@ import subprocess
 import tempfile
 import unittest
 
-from realgit.engine import BUILT, TOP
-from realgit.trouble import read_file
+from bagjulen_tools.engine import BUILT
+from bagjulen_tools.paths import TOP
+from bagjulen_tools.trouble import read_file
 
 IS_BUILT = os.access(BUILT, os.X_OK)
 SCENE = os.path.join(TOP, "examples", "one-commit.scene")

@@ -3,8 +3,8 @@
 import random
 import unittest
 
-from realgit.racing import fault_of, race_at_random, read_race, replayed
-from realgit.trouble import Trouble
+from bagjulen_tools.trials.races import fault_of, race_at_random, read_race, replayed
+from bagjulen_tools.trouble import Trouble
 
 A, B = "a" * 40, "b" * 40
 NAME = "refs/remotes/a/main"

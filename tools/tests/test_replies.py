@@ -6,15 +6,31 @@ import unittest
 from random import Random
 
 from common import TOOLS
-from realgit.depths import Depth, History, named
-from realgit.lines import Mark, encoded
-from realgit.linking import links_of, reached
-from realgit.plainpack import write_pack
-from realgit.replies import AGAIN, BEHIND, CHAIN, END, FAR, LEAVES, NO_DEPTH, NO_HAVES, NOT_OFFERED, OUTSIDE, READY, REASONS
-from realgit.replies import Asked, fetches, greetings, listings
-from realgit.rowserver import escaped, row_of
-from realgit.served import Fetch, Growth, Maker
-from realgit.trouble import read_file
+from bagjulen_tools.formats.links import links_of, reached
+from bagjulen_tools.formats.plainpack import write_pack
+from bagjulen_tools.protocol.depth import Depth, History, named
+from bagjulen_tools.protocol.lines import Mark, encoded
+from bagjulen_tools.trials.replies import (
+    AGAIN,
+    BEHIND,
+    CHAIN,
+    END,
+    FAR,
+    LEAVES,
+    NOT_OFFERED,
+    NO_DEPTH,
+    NO_HAVES,
+    OUTSIDE,
+    READY,
+    REASONS,
+    RequestContext,
+    fetches,
+    greetings,
+    listings,
+)
+from bagjulen_tools.trials.row_server import escaped, row_of
+from bagjulen_tools.trials.served import Fetch, Growth, Maker
+from bagjulen_tools.trouble import read_file
 
 
 def said(*lines):
@@ -36,7 +52,7 @@ class Replies(unittest.TestCase):
     def asked(self, haves=True, done=True, wants=None):
         stored, held = self.growth.objects, self.old if haves else set()
         request = Fetch("sha1", "plain-pack-2", False, [], [wants or self.second], [self.first] if haves else [], done)
-        return Asked(request, stored, {self.second}, {digits: stored[digits] for digits in held})
+        return RequestContext(request, stored, {self.second}, {digits: stored[digits] for digits in held})
 
     def pack(self, ids):
         return said(b"packfile\n", b"\1" + write_pack([self.growth.objects[digits] for digits in sorted(ids)], 2, "sha1"))
@@ -84,7 +100,7 @@ class Replies(unittest.TestCase):
         stored, pack = self.growth.objects, self.pack(self.growth.objects.keys() - {self.other}).removesuffix(b"0000")
         moved = {word: said(b"shallow-info\n", *(f"{line}\n".encode() for line in lines)).removesuffix(b"0000") + b"0001" + pack + b"0000"
                  for word, lines in (("none", []), ("first", [f"shallow {self.first}"]), ("second", [f"shallow {self.second}"]))}
-        asked = Asked(Fetch("sha1", "plain-pack-2", False, [], [self.second], [], True, Depth(deepen=2)), stored, {self.second})
+        asked = RequestContext(Fetch("sha1", "plain-pack-2", False, [], [self.second], [], True, Depth(deepen=2)), stored, {self.second})
         self.assertEqual(self.reasons(moved["none"], moved["none"], asked), [])
         self.assertEqual(self.reasons(moved["first"], moved["none"], asked), [END])
         self.assertIn(None, self.reasons(moved["none"], moved["first"], asked))
@@ -104,7 +120,7 @@ class Replies(unittest.TestCase):
         stored, third = self.growth.objects, self.growth.commit([])
         merge = self.growth.commit([self.first, third])
         request = Fetch("sha1", "plain-pack-2", False, [], [merge], [], True, Depth(excluded=["old"]))
-        asked = Asked(request, stored, {merge, self.first}, references={"refs/heads/old": [self.first]})
+        asked = RequestContext(request, stored, {merge, self.first}, references={"refs/heads/old": [self.first]})
         ours = self.limited(reached(stored, [merge, third], [merge]), f"shallow {merge}")
         real = self.limited(reached(stored, [merge], [merge]), f"shallow {merge}")
         self.assertEqual(self.reasons(real, ours, asked), [BEHIND])
@@ -120,7 +136,7 @@ class Replies(unittest.TestCase):
         """The first commit, which has no parents, leaves the border, and no have leads to it."""
         stored = self.growth.objects
         request = Fetch("sha1", "plain-pack-2", False, [self.first], [self.second], [], True, Depth(deepen=1, relative=True))
-        asked = Asked(request, stored, {self.second})
+        asked = RequestContext(request, stored, {self.second})
         real, ours = (self.limited(ids, f"unshallow {self.first}") for ids in (self.new, self.new | self.old))
         self.assertEqual(self.reasons(ours, ours, asked), [])
         self.assertEqual(self.reasons(real, ours, asked), [LEAVES])

@@ -4,11 +4,11 @@ import os
 import subprocess
 
 from common import TOOLS, WithRepositories, run
-from realgit.lines import Mark, encoded, text_line
-from realgit.scene import packs_in
-from realgit.plainpack import read_pack
-from realgit.trouble import BAD_INPUT, GIT_REFUSED
-from realgit.wire import lines_from
+from bagjulen_tools.formats.plainpack import read_pack
+from bagjulen_tools.formats.scene import packs_in
+from bagjulen_tools.protocol.connection import lines_from
+from bagjulen_tools.protocol.lines import Mark, encoded, text_line
+from bagjulen_tools.trouble import BAD_INPUT, GIT_REFUSED
 
 FIRST = encoded(b"git-upload-pack /any/where\0\0version=2\0")
 

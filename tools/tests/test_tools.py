@@ -6,14 +6,14 @@ import tempfile
 import unittest
 
 from common import DOUBLE, SPEC, TOOLS, WithRepositories, run
-from realgit.gitpack import store
-from realgit.pairs import LEVELS, Maker
-from realgit.plainpack import object_id
-from realgit.realfetch import verdicts
-from realgit.reasons import REASONS
-from realgit.repository import Repository, git
-from realgit.scene import read_scene
-from realgit.trouble import read_file
+from bagjulen_tools.formats.gitpack import store
+from bagjulen_tools.formats.plainpack import object_id
+from bagjulen_tools.formats.scene import read_scene
+from bagjulen_tools.repository.git import Repository, git
+from bagjulen_tools.trials.pairs import LEVELS, Maker
+from bagjulen_tools.trials.real_fetch import verdicts
+from bagjulen_tools.trials.reasons import REASONS
+from bagjulen_tools.trouble import read_file
 
 
 class Scenes(WithRepositories):

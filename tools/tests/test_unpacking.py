@@ -8,10 +8,8 @@ import tarfile
 import tempfile
 import unittest
 
-from common import tool
-from realgit.trouble import write_file
-
-UNPACK = tool("measure/unpack-repositories")
+from bagjulen_tools.measure import unpack_repositories
+from bagjulen_tools.trouble import write_file
 
 
 def archive(*paths):
@@ -36,7 +34,7 @@ class Unpacking(unittest.TestCase):
     def test_directories(self):
         for path in ("a.git", "a/.gitted", "b/c/.gitted", "b/plain"):
             os.makedirs(os.path.join(self.folder, "source", path, "objects"))
-        found = self.made(UNPACK.of_libgit2, os.path.join(self.folder, "source"))
+        found = self.made(unpack_repositories.of_libgit2, os.path.join(self.folder, "source"))
         self.assertEqual(found, ["a.git", "a", "b-c"])
         self.assertTrue(all(os.path.isdir(os.path.join(self.folder, "made", path, "objects")) for path in found))
 
@@ -47,7 +45,7 @@ class Unpacking(unittest.TestCase):
             ("worktree-3.tgz", archive("one/.git/HEAD", "one/.git/objects/x", "two/HEAD", "two/objects/x")),
             ("git-4.tgz", archive("HEAD"))))
         write_file(path, text.encode())
-        self.assertEqual(self.made(UNPACK.of_go_git, path), ["git-1", "worktree-3/one/.git", "worktree-3/two", "git-4"])
+        self.assertEqual(self.made(unpack_repositories.of_go_git, path), ["git-1", "worktree-3/one/.git", "worktree-3/two", "git-4"])
 
 
 if __name__ == "__main__":

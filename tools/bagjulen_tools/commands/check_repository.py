@@ -1,0 +1,71 @@
+"""Checks real repositories by the engine and by `git fsck --connectivity-only`, and compares what both find.
+
+Each REPOSITORY is taken with its references, border and objects, without logs, index and work trees, and none is changed.
+With --damage each is harmed first, in one to three of six ways that the seed draws: a file, a tree or a commit is gone, a
+reference has an id that isn't there, names lead in a circle, a commit enters the border. Differences that have a reason are
+counted by it.
+"""
+
+import os
+import tempfile
+from collections import Counter
+from random import Random
+
+from bagjulen_tools.engine import MALFORMED, PROGRAM, Engine
+from bagjulen_tools.protocol.lines import decoded_text
+from bagjulen_tools.repository.fsck import (
+    UNEXPLAINED,
+    differences,
+    laid_out,
+    read_state,
+    told_by_engine,
+    told_by_git,
+)
+from bagjulen_tools.repository.git import Repository
+from bagjulen_tools.trials.damage import Damage
+from bagjulen_tools.trouble import DIFFERENT, DONE, ToolParser, Trouble
+
+
+def words(given):
+    """What the words say."""
+    parser = ToolParser(__doc__, "something is found otherwise, for no reason that is known")
+    parser.add_argument("repositories", metavar="REPOSITORY", nargs="+", help="a repository on this machine")
+    parser.add_argument("--damage", metavar="SEED", help="harm a copy of each; any text")
+    parser.add_argument("--copies", metavar="N", type=int, default=1, help="how many copies of each (1)")
+    parser.add_argument("--engine", default=PROGRAM, metavar="PROGRAM", help="the engine (bagjulen beside tools/)")
+    return parser.parse_intermixed_args(given)
+
+
+def compared(state, engine):
+    """How a repository came out, in words, and the reasons for what differs."""
+    status, written = engine.check(state.to_server_bytes())
+    if status == MALFORMED:
+        return [f"the engine can't read it: {decoded_text(written).strip()}"], ["not read"]
+    ours = told_by_engine(status, written)
+    with tempfile.TemporaryDirectory() as folder:
+        theirs = told_by_git(laid_out(state, folder))
+    found = list(differences(state, ours, theirs))
+    told = f"{len(ours.links)} links, {len(ours.broken)} references, {len(ours.unreached)} objects"
+    return [told, *(f"{reason}: {what}" for reason, what in found if reason == UNEXPLAINED)], [reason for reason, _ in found]
+
+
+def main(arguments: list[str]) -> int:
+    asked = words(arguments)
+    engine = Engine(asked.engine)
+    counts: Counter[str] = Counter()
+    for path in asked.repositories:
+        for number in range(asked.copies):
+            try:
+                state = read_state(Repository(path))
+            except Trouble as trouble:
+                print(f"{path}: {trouble}")
+                counts["not read"] += 1
+                break
+            random = Random(f"{asked.damage}/{os.path.basename(path)}/{number}")
+            harm = [] if asked.damage is None else Damage(random, state).some(random.randint(1, 3))
+            told, reasons = compared(state, engine)
+            print(f"{path}: {', '.join(harm) or 'as it stands'}: {told[0]}", *told[1:], sep="\n    ", flush=True)
+            counts.update(set(reasons) or {"alike"})
+    for reason, count in sorted(counts.items()):
+        print(f"{count:6} {reason}")
+    return DIFFERENT if counts[UNEXPLAINED] else DONE

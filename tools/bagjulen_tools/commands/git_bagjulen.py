@@ -1,0 +1,143 @@
+"""Fetches from a real address into a real repository by the proved engine: `git bagjulen`, where tools/ is on the path.
+
+    git bagjulen fetch [<options>] [<repository> [<refspec>...]]
+    git bagjulen clone [<options>] <repository> [<directory>]
+
+The words are those of `git fetch` and `git clone`; what isn't supported is refused by its name. Addresses are paths,
+file://, http://, https://, ssh://, git://, and host:path. docs/REAL-GIT.md says what of such a run is proved.
+
+Statuses: 0 where it was done, 1 where some reference was rejected, 128 where it wasn't done, with a line `fatal: ..`.
+"""
+
+import argparse
+import os
+import sys
+
+from bagjulen_tools.engine import PROGRAM, Engine
+from bagjulen_tools.remote.clone import clone
+from bagjulen_tools.remote.fetch import FetchOptions, choose_tags, depth_options, fetch, plan_of
+from bagjulen_tools.remote.messages import anonymous
+from bagjulen_tools.repository.git import Repository
+from bagjulen_tools.trouble import BAD_WORDS, Trouble
+
+FATAL = 128
+
+
+class GitParser(argparse.ArgumentParser):
+    """The words of a command. What isn't known is refused by its name."""
+
+    def __init__(self, name, description):
+        super().__init__(prog=f"git bagjulen {name}", description=description, allow_abbrev=False)
+
+    def error(self, message):
+        raise Trouble(BAD_WORDS, message)
+
+    def read(self, given):
+        asked, others = self.parse_known_intermixed_args(given)
+        if others:
+            raise Trouble(BAD_WORDS, f"{others[0].partition('=')[0]} isn't supported by git bagjulen")
+        return asked
+
+
+def add_common(parser):
+    """The words that both commands have."""
+    parser.add_argument("-q", "--quiet", action="store_true", help="tell nothing but what is wrong")
+    parser.add_argument("-v", "--verbose", action="store_true", help="tell of references that are up to date, too")
+    parser.add_argument("--progress", action=argparse.BooleanOptionalAction, help="show the server's progress")
+    parser.add_argument("--depth", metavar="N", help="that many commits of each history")
+    parser.add_argument("--shallow-since", metavar="DATE", help="commits since then")
+    parser.add_argument("--shallow-exclude", metavar="NAME", action="append", default=[], help="commits that it hasn't")
+
+
+def fetch_words(given):
+    """What the words of a fetch say."""
+    parser = GitParser("fetch", "Fetches into the repository that stands here.")
+    add_common(parser)
+    parser.add_argument("-f", "--force", action="store_true", help="move references that don't go forward, too")
+    parser.add_argument("-t", "--tags", dest="tags", action="store_const", const="all", help="all tags")
+    parser.add_argument("-n", "--no-tags", dest="tags", action="store_const", const="none", help="no tags")
+    parser.add_argument("--deepen", metavar="N", help="that many commits more")
+    parser.add_argument("--unshallow", action="store_true", help="all of the history")
+    parser.add_argument("--update-shallow", action="store_true", help="take the border of a shallow server, too")
+    parser.add_argument("--dry-run", action="store_true", help="tell what would be done, and change nothing")
+    parser.add_argument("--write-fetch-head", action=argparse.BooleanOptionalAction, default=True, help="write FETCH_HEAD")
+    parser.add_argument("repository", nargs="?", help="the name of a remote, or an address")
+    parser.add_argument("refspecs", nargs="*", help="what is fetched (what the configuration says)")
+    return parser.read(given)
+
+
+def clone_words(given):
+    """What the words of a clone say."""
+    parser = GitParser("clone", "Fetches into a new repository. All but the fetch are steps of Git's own commands.")
+    add_common(parser)
+    parser.add_argument("--bare", action="store_true", help="without a work tree")
+    parser.add_argument("--mirror", action="store_true", help="bare, with all references as they are")
+    parser.add_argument("-n", "--no-checkout", action="store_true", help="leave the work tree empty")
+    parser.add_argument("-o", "--origin", metavar="NAME", help="the name of the remote (origin)")
+    parser.add_argument("-b", "--branch", metavar="NAME", help="the branch or tag that is checked out")
+    parser.add_argument("--single-branch", action=argparse.BooleanOptionalAction, help="that branch alone")
+    parser.add_argument("--no-tags", action="store_true", help="no tags")
+    parser.set_defaults(deepen=None, unshallow=False)
+    parser.add_argument("repository", help="an address")
+    parser.add_argument("directory", nargs="?", help="where it comes to stand")
+    return parser.read(given)
+
+
+def options_of(asked):
+    """How a fetch is made."""
+    has_progress = not asked.quiet and sys.stderr.isatty() if asked.progress is None else asked.progress
+    return FetchOptions(verbosity=asked.verbose - asked.quiet, has_progress=has_progress)
+
+
+def standing():
+    """The repository that stands here. As Git does, the command goes to the top of its work tree, from where paths lead."""
+    if "GIT_DIR" in os.environ:
+        return Repository(os.environ["GIT_DIR"])
+    os.chdir(Repository(".").path)
+    return Repository(".")
+
+
+def run_fetch(given: list[str]) -> int:
+    asked = fetch_words(given)
+    repository = standing()
+    plan = plan_of(repository, asked.repository, refspecs(asked.refspecs), asked.force)
+    plan.options = depth_options(repository, asked)
+    choose_tags(plan, asked.tags, asked.force)
+    options = options_of(asked)
+    options.is_dry, options.updates_shallow = asked.dry_run, asked.update_shallow
+    options.writes_fetch_head = asked.write_fetch_head
+    action = os.environ.get("GIT_REFLOG_ACTION") or " ".join(["fetch", *map(anonymous, given)])
+    return fetch(repository, plan, options, Engine(PROGRAM), action)
+
+
+def refspecs(words):
+    """Refspecs, in which `tag <name>` stands for a tag to its own place."""
+    words, found = iter(words), []
+    for word in words:
+        name = next(words, None) if word == "tag" else None
+        if word == "tag" and name is None:
+            raise Trouble(BAD_WORDS, "you need to specify a tag name")
+        found.append(word if name is None else f"refs/tags/{name}:refs/tags/{name}")
+    return found
+
+
+def run_clone(given: list[str]) -> int:
+    asked = clone_words(given)
+    return clone(asked, options_of(asked), Engine(PROGRAM))
+
+
+COMMANDS = {"fetch": run_fetch, "clone": run_clone}
+
+
+def main(arguments: list[str]) -> int:
+    if arguments[:1] in ([], ["-h"], ["--help"]):
+        print(__doc__, end="")
+        print(f"\nThe engine is {PROGRAM}; BAGJULEN names another one.")
+        return 0 if arguments else FATAL
+    try:
+        if arguments[0] not in COMMANDS:
+            raise Trouble(BAD_WORDS, f"'{arguments[0]}' is no command of git bagjulen, which are fetch and clone")
+        return COMMANDS[arguments[0]](arguments[1:])
+    except Trouble as trouble:
+        print(f"fatal: {str(trouble).removeprefix('git refused: ').removeprefix('fatal: ')}", file=sys.stderr)
+        return FATAL

@@ -1,0 +1,60 @@
+"""Serves a repository to one peer that lives, over standard input and output, with plain packs in place of Git's own.
+
+The peer says its first line, `git-upload-pack <address>` with what follows it, gets the greeting, and then asks: each
+request ends with a flush, and gets the answer of real `git upload-pack`. The address is passed over. It ends where the
+peer's bytes do between two requests.
+"""
+
+import sys
+
+from bagjulen_tools.protocol.connection import lines_from, local
+from bagjulen_tools.protocol.lines import MalformedLine, Mark, line_at, placed_lines
+from bagjulen_tools.protocol.upload_pack import Server
+from bagjulen_tools.repository.git import Repository
+from bagjulen_tools.trouble import BAD_INPUT, DONE, GIT_REFUSED, ToolParser, Trouble
+
+FIRST = b"git-upload-pack "
+
+
+def say(data):
+    sys.stdout.buffer.write(data)
+    sys.stdout.buffer.flush()
+
+
+def first_line(reader):
+    """The payload of the line that stands before all requests."""
+    digits = reader.read(4)
+    try:
+        return line_at(digits + reader.read(max(int(digits, 16) - 4, 0)), 0)[0]
+    except (ValueError, MalformedLine):
+        return b""
+
+
+def requests(reader):
+    """The requests that come, each its lines without the flush."""
+    while data := lines_from(reader):
+        try:
+            *lines, last = [line for _, line in placed_lines(data)]
+        except (ValueError, MalformedLine):
+            last = None
+        if last is not Mark.FLUSH:
+            raise Trouble(BAD_INPUT, "the peer's bytes end within a request, or are no lines")
+        yield lines
+
+
+def main(arguments: list[str]) -> int:
+    parser = ToolParser(__doc__)
+    parser.add_argument("repository", metavar="REPOSITORY", help="what is served")
+    server = Server(local(Repository(parser.parse_args(arguments).repository).git_dir))
+    reader = sys.stdin.buffer
+    try:
+        if not first_line(reader).startswith(FIRST):
+            raise Trouble(BAD_INPUT, "the peer's first line isn't `git-upload-pack <address>`")
+        say(server.greeting())
+        for request in requests(reader):
+            say(server.answer(request))
+            if server.refusal is not None:
+                raise Trouble(GIT_REFUSED, f"git upload-pack refused: {server.refusal}")
+    finally:
+        server.close()
+    return DONE

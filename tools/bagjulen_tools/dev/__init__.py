@@ -1,0 +1,1 @@
+"""The commands for who works on this repository, one module each."""

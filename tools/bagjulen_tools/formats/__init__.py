@@ -1,0 +1,1 @@
+"""The texts that the tools read and write: scenes, reports, bundles, packs, objects, rows."""

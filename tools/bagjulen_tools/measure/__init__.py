@@ -1,0 +1,1 @@
+"""The commands that try the engine or compare it with real Git, one module each."""

@@ -1,0 +1,150 @@
+"""`git bagjulen clone`: Git's own steps around the engine's fetch."""
+
+import os
+import shutil
+import sys
+
+from bagjulen_tools.protocol.connection import connect
+from bagjulen_tools.protocol.lines import Mark, placed_lines, text_of
+from bagjulen_tools.protocol.upload_pack import Server
+from bagjulen_tools.remote.fetch import FetchPlan, depth_options, fetch_from
+from bagjulen_tools.remote.messages import Progress, anonymous
+from bagjulen_tools.repository.git import Repository, git
+from bagjulen_tools.trouble import BAD_INPUT, DONE, GIT_REFUSED, Trouble
+
+LISTING = [b"command=ls-refs\n", Mark.DELIMITER, b"peel\n", b"symrefs\n", b"unborn\n", b"ref-prefix HEAD\n",
+           b"ref-prefix refs/heads/\n", b"ref-prefix refs/tags/\n"]
+BRANCHES, TAGS, TARGET = "refs/heads/", "refs/tags/", "symref-target:"
+
+
+class Remote:
+    """What a server has to be known of before its history comes: its branches, its tags, and what its HEAD stands for."""
+
+    def __init__(self, server):
+        format_line = f"object-format={server.hash_name}\n".encode()
+        said = server.answer([LISTING[0], format_line, *LISTING[1:]])
+        if server.refusal is not None:
+            raise Trouble(GIT_REFUSED, server.refusal)
+        lines = [text_of(line).split(" ") for _, line in placed_lines(said) if isinstance(line, bytes)]
+        self.ids = {name: digits for digits, name, *_ in lines}
+        marks = [mark for _, name, *more in lines if name == "HEAD" for mark in more]
+        self.head = next((mark.removeprefix(TARGET) for mark in marks if mark.startswith(TARGET)), None)
+
+    def is_empty(self):
+        """Whether it has no commit."""
+        return not any(digits != "unborn" for digits in self.ids.values())
+
+    def chosen(self, branch, address):
+        """The reference that is to be checked out: its full name, or None for a HEAD that stands for no name."""
+        if branch is None:
+            return self.head
+        found = next((front + branch for front in (BRANCHES, TAGS) if front + branch in self.ids), None)
+        if found is None:
+            raise Trouble(BAD_INPUT, f"Remote branch {branch} not found in upstream {address}")
+        return found
+
+
+def clone(asked, options, engine):
+    """Clones, and answers the status."""
+    address = os.path.abspath(asked.repository) if os.path.exists(asked.repository) else asked.repository
+    is_bare = asked.bare or asked.mirror
+    folder = asked.directory or humanish(asked.repository, is_bare)
+    if os.path.exists(folder) and (not os.path.isdir(folder) or os.listdir(folder)):
+        raise Trouble(BAD_INPUT, f"destination path '{folder}' already exists and is not an empty directory.")
+    if options.verbosity >= 0:
+        print(f"Cloning into {'bare repository ' * is_bare}'{folder}'...", file=sys.stderr)
+    server = Server(connect(address, asked.origin or "origin"), Progress() if options.has_progress else None)
+    was_there = os.path.isdir(folder)
+    try:
+        return _clone_from(server, asked, options, engine, address, folder)
+    except BaseException:
+        _clear(folder, was_there)
+        raise
+    finally:
+        server.close()
+
+
+def _clear(folder, was_there):
+    """Takes away what was made."""
+    for name in os.listdir(folder) if was_there else []:
+        path = os.path.join(folder, name)
+        shutil.rmtree(path) if os.path.isdir(path) else os.remove(path)
+    if not was_there:
+        shutil.rmtree(folder, ignore_errors=True)
+
+
+def humanish(address, is_bare):
+    """The name that Git gives to the clone of an address."""
+    path = address.rstrip("/").removesuffix("/.git").rstrip("/")
+    name = path.rpartition("/")[2].rpartition(":")[2].removesuffix(".git").removesuffix(".bundle")
+    if not name:
+        raise Trouble(BAD_INPUT, f"No directory name could be guessed for '{address}'")
+    return f"{name}.git" if is_bare else name
+
+
+def _clone_from(server, asked, options, engine, address, folder):
+    remote = Remote(server)
+    chosen = remote.chosen(asked.branch, asked.origin or "origin")
+    words = ["--bare"] if asked.bare or asked.mirror else []
+    git(["init", "-q", f"--object-format={server.hash_name}", "-b", "main", *words, folder])
+    repository, name = Repository(folder), asked.origin or "origin"
+    specs, tags = specs_of(asked, name, chosen)
+    _configure(repository, asked, name, address, specs)
+    options.writes_fetch_head, options.updates_shallow, verbosity = False, True, options.verbosity
+    if remote.is_empty():
+        print("warning: You appear to have cloned an empty repository.", file=sys.stderr)
+    else:
+        plan = FetchPlan(address, name, specs or ["HEAD"], tags=tags, options=depth_options(repository, asked))
+        options.verbosity = verbosity if verbosity > 0 else -1
+        fetch_from(server, repository, plan, options, engine, f"clone: from {anonymous(address)}")
+    _point_head(repository, remote, chosen, asked, name, address)
+    return DONE
+
+
+def specs_of(asked, name, chosen):
+    """The refspecs of a clone, and its tags."""
+    is_bare = asked.bare or asked.mirror
+    is_single = asked.depth is not None if asked.single_branch is None else asked.single_branch
+    tags = "none" if asked.no_tags or asked.mirror else "included" if is_single else "all"
+    if asked.mirror:
+        return ["+refs/*:refs/*"], tags
+    if not is_single:
+        return [f"+{BRANCHES}*:{BRANCHES}*" if is_bare else f"+{BRANCHES}*:refs/remotes/{name}/*"], tags
+    if chosen is None:
+        return [], tags
+    if chosen.startswith(BRANCHES) and not is_bare:
+        return [f"+{chosen}:refs/remotes/{name}/{chosen.removeprefix(BRANCHES)}"], tags
+    return [f"+{chosen}:{chosen}"], tags
+
+
+def _configure(repository, asked, name, address, specs):
+    """Writes the section of the remote, as Git does: a bare clone has no refspecs, and a mirror says that it is one."""
+    repository.git("config", f"remote.{name}.url", address)
+    if asked.no_tags:
+        repository.git("config", f"remote.{name}.tagOpt", "--no-tags")
+    for spec in [] if asked.bare and not asked.mirror else specs:
+        repository.git("config", "--add", f"remote.{name}.fetch", spec)
+    if asked.mirror:
+        repository.git("config", f"remote.{name}.mirror", "true")
+
+
+def _point_head(repository, remote, chosen, asked, name, address):
+    """Has HEAD stand for what is to be checked out, and fills the work tree."""
+    is_bare, message = asked.bare or asked.mirror, ["-m", f"clone: from {anonymous(address)}"]
+    digits = remote.ids.get(chosen or "HEAD")
+    digits = None if digits == "unborn" else digits
+    if chosen is not None and chosen.startswith(BRANCHES):
+        branch = chosen.removeprefix(BRANCHES)
+        repository.git("symbolic-ref", "HEAD", chosen)
+        if digits is not None:
+            repository.git("update-ref", *message, "HEAD", digits)
+        if not is_bare:
+            repository.git("config", f"branch.{branch}.remote", name)
+            repository.git("config", f"branch.{branch}.merge", chosen)
+    elif digits is not None:
+        repository.git("update-ref", "--no-deref", *message, "HEAD", f"{digits}^{{commit}}")
+    tracked = f"refs/remotes/{name}/{(remote.head or '').removeprefix(BRANCHES)}"
+    if not is_bare and remote.head and tracked in repository.direct_references():
+        repository.git("symbolic-ref", *message, f"refs/remotes/{name}/HEAD", tracked)
+    if not is_bare and digits is not None and not asked.no_checkout:
+        repository.git("read-tree", "-m", "-u", "HEAD")

@@ -1,0 +1,242 @@
+"""`git bagjulen fetch`: one fetch into the repository that stands here, by the engine, told as `git fetch` tells it."""
+
+import os
+import sys
+from dataclasses import dataclass, field
+
+from bagjulen_tools.formats.ancestry import links_of, reached
+from bagjulen_tools.protocol.connection import connect
+from bagjulen_tools.protocol.lines import decoded_text, placed_lines, text_of
+from bagjulen_tools.protocol.upload_pack import Server
+from bagjulen_tools.remote import messages
+from bagjulen_tools.remote.client import remote_of, scene_of
+from bagjulen_tools.remote.conversation import converse
+from bagjulen_tools.remote.messages import IGNORED, MERGE, NOT_FOR_MERGE, RefUpdate
+from bagjulen_tools.remote.refspecs import brings, forced, is_from, sides, tracking
+from bagjulen_tools.repository.apply import apply
+from bagjulen_tools.trouble import BAD_WORDS, DIFFERENT, DONE, GIT_REFUSED, Trouble, write_file
+
+TAG_SPEC = "refs/tags/*:refs/tags/*"
+# The depth that Git takes for all of a history.
+INFINITE = 2147483647
+
+
+@dataclass
+class FetchOptions:
+    """How a fetch is made: what is said while it is, and what is left undone. A dry one is made whole, and not written."""
+
+    verbosity: int = 0
+    has_progress: bool = False
+    is_dry: bool = False
+    updates_shallow: bool = False
+    writes_fetch_head: bool = True
+
+
+@dataclass
+class FetchPlan:
+    """What is fetched: from where, by which refspecs, tags and options, and what of it is for a merge.
+
+    `given` are the refspecs whose mappings are all for a merge, `merges` the names that are. `extra` refspecs lead where
+    FETCH_HEAD isn't told of.
+    """
+
+    address: str
+    name: str | None
+    specs: list[str]
+    given: list[str] = field(default_factory=list)
+    extra: list[str] = field(default_factory=list)
+    merges: list[str] = field(default_factory=list)
+    tags: str = "included"
+    options: list[str] = field(default_factory=list)
+
+    def is_for(self, mapping):
+        """What a mapping is for."""
+        names = mapping.source, mapping.destination
+        if any(is_from(spec, *names) for spec in self.given) or mapping.source in self.merges:
+            return MERGE
+        if any(is_from(spec, *names) for spec in self.specs):
+            return NOT_FOR_MERGE
+        return IGNORED if any(is_from(spec, *names) for spec in self.extra) else NOT_FOR_MERGE
+
+    def is_followed(self, mapping):
+        """Whether a mapping is of a tag that comes along, and that no refspec asks for."""
+        names = mapping.source, mapping.destination
+        return self.tags == "included" and not any(is_from(spec, *names) for spec in [*self.specs, *self.extra])
+
+
+def plan_of(repository, word, specs, is_forced):
+    """What the words `[<repository> [<refspec>..]]` of a fetch say, with the configuration."""
+    branch = repository.head()["HEAD"].removeprefix("@refs/heads/")
+    entries = list(repository.entries())
+    last = dict(entries)
+    own = last.get(f"branch.{branch}.remote")
+    remotes = (key.split(".", 1)[1].rpartition(".")[0] for key, _ in entries if key.startswith("remote."))
+    names = set(filter(None, remotes))
+    word = word or own or (next(iter(names)) if len(names) == 1 else "origin")
+    name = word if word in names else None
+    configured, tags = remote_of(repository, word) if name else ([], "included")
+    merges = [value for key, value in entries if key == f"branch.{branch}.merge" and own == word and value]
+    address = repository.text("ls-remote", "--get-url", "--", word)
+    if last.get("fetch.prune") == "true" or last.get(f"remote.{word}.prune") == "true":
+        print("warning: git bagjulen doesn't prune", file=sys.stderr)
+    if specs:
+        extra = [each for spec in specs for each in tracking(spec, configured)]
+        found = FetchPlan(address, name, specs, specs, extra, tags=tags)
+    elif configured or merges:
+        lone = [merge for merge in merges if not any(brings(spec, merge) for spec in configured)]
+        found = FetchPlan(address, name, configured + lone, lone, merges=merges, tags=tags)
+        if not merges and configured and "*" not in configured[0]:
+            found.given = configured[:1]
+    else:
+        found = FetchPlan(address, name, ["HEAD"], ["HEAD"], tags=tags)
+    if is_forced:
+        found.specs, found.given, found.extra = (list(map(forced, each)) for each in (found.specs, found.given, found.extra))
+    return found
+
+
+def choose_tags(plan, asked, is_forced):
+    """Has a plan bring the tags that words ask for, or else those that the configuration does.
+
+    As Git does, tags come along only where some refspec has a destination, and a word that forces forces tags too.
+    """
+    plan.tags = asked or plan.tags
+    if plan.tags == "included" and all(sides(spec)[1] is None for spec in plan.specs):
+        plan.tags = "none"
+    if plan.tags == "all" and is_forced:
+        plan.tags, plan.specs = "none", [*plan.specs, forced(TAG_SPEC)]
+
+
+def fetch(repository, plan, options, engine, action):
+    """Fetches, tells of it, and answers the status."""
+    server = Server(connect(plan.address, plan.name or ""), messages.Progress() if options.has_progress else None)
+    try:
+        return fetch_from(server, repository, plan, options, engine, action)
+    finally:
+        server.close()
+
+
+def fetch_from(server, repository, plan, options, engine, action):
+    """The same from a server that is connected."""
+    scene = scene_of(repository)
+    scene.address, scene.specs, scene.extra, scene.tags = plan.address, plan.specs, plan.extra, plan.tags
+    scene.options = [*plan.options, f"action {' '.join(action.split())}"]
+    report = conversed(scene, server, engine, options.updates_shallow)
+    if report is None:
+        return DONE
+    told = told_of(scene, report, plan)
+    if not options.is_dry:
+        apply(repository, scene, report)
+    tell(repository, told, plan, options)
+    return DIFFERENT if any(each.is_rejected() for each in told) else DONE
+
+
+def conversed(scene, server, engine, updates_shallow):
+    """The report of a fetch, or None where all that it would bring is left out.
+
+    Without `updates_shallow` and without a depth, references are left out that need a border of the server's own.
+    """
+    asks_depth = any(option.split()[0] in ("depth", "deepen", "since", "not") for option in scene.options)
+    is_left_out = False
+    while True:
+        report = converse(scene, server, engine)
+        if server.refusal is not None:
+            raise Trouble(GIT_REFUSED, server_says(scene) or server.refusal)
+        needed = [] if updates_shallow or asks_depth or report.refused else mappings_of_new_border(scene, report)
+        if not needed:
+            break
+        is_left_out = True
+        for each in needed:
+            name = each.destination or each.source
+            print(f"warning: rejected {name} because shallow roots are not allowed to be updated", file=sys.stderr)
+        scene.specs = [*scene.specs, *(f"^{each.source}" for each in needed)]
+    if report.refused is None:
+        return report
+    if is_left_out and report.refused.startswith("NoMapping"):
+        return None
+    raise Trouble(GIT_REFUSED, why_refused(report.refused, scene))
+
+
+def listed(scene):
+    """The references that the server listed: the id of each, or None where it is unborn."""
+    lines = [text_of(line).split(" ") for _, line in placed_lines(scene.server[1]) if isinstance(line, bytes)]
+    return {name: None if digits == "unborn" else digits for digits, name, *_ in lines}
+
+
+def mappings_of_new_border(scene, report):
+    """The mappings whose history needs commits in the border that aren't there."""
+    lines = [line for _, line in placed_lines(b"".join(scene.server[2:])) if isinstance(line, bytes)]
+    new = {text_of(line).split(" ")[1] for line in lines if line.startswith(b"shallow ")} - set(scene.border)
+    if not new:
+        return []
+    links, ids = links_of([*scene.objects, *scene.received()]), listed(scene)
+    return [each for each in report.mappings if not new.isdisjoint(reached(links, [ids.get(each.source)]))]
+
+
+def server_says(scene):
+    """The text of the server's own refusal, or None."""
+    said = scene.server[-1]
+    return f"remote error: {decoded_text(said[8:]).strip()}" if said[4:8] == b"ERR " else None
+
+
+def why_refused(token, scene):
+    """A refusal of the engine in words."""
+    name, _, kept = token.partition(" ")
+    if name == "ServerError":
+        return f"remote error: {kept}"
+    if name == "NoMapping":
+        return f"couldn't find remote ref {' '.join(sides(spec)[0] for spec in scene.specs)}"
+    return f"the engine refused the fetch: {token}"
+
+
+def told_of(scene, report, plan):
+    """The mappings of a report that Git would tell of, with their ids."""
+    ids = listed(scene)
+    told = []
+    for each in report.mappings:
+        new = ids.get(each.source, each.source)
+        passed = plan.is_followed(each) and each.mode != "new"
+        if new is not None and each.mode != messages.NO_TAG and not passed:
+            old = peeled(scene.references, each.destination)
+            told.append(RefUpdate(each.source, each.destination, old, new, each.mode, plan.is_for(each)))
+    return told
+
+
+def peeled(references, name):
+    """The id that a name of a reference leads to, or None."""
+    for _ in range(5):
+        found = references.get(name)
+        if found is None or not found.startswith("@"):
+            return found
+        name = found[1:]
+    return None
+
+
+def tell(repository, told, plan, options):
+    """Writes FETCH_HEAD, and the lines about a fetch."""
+    if not options.is_dry and options.writes_fetch_head:
+        for_head = sorted((each for each in told if each.is_for != IGNORED), key=lambda each: each.is_for)
+        text = "".join(messages.fetch_head_line(each, plan.address) for each in for_head)
+        write_file(os.path.join(repository.git_dir, "FETCH_HEAD"), text.encode("utf-8", "surrogateescape"))
+    if options.verbosity >= 0:
+        ids = sorted({digits for each in told for digits in (each.old, each.new) if digits})
+        lines = messages.lines(told, plan.address, repository.abbreviated(ids), options.verbosity > 0,
+                              options.writes_fetch_head)
+        print(*lines, sep="\n", end="\n" * bool(lines), file=sys.stderr)
+
+
+def depth_options(repository, asked):
+    """The options of a scene that Git's words for a part of the history stand for."""
+    if asked.depth is not None and asked.deepen is not None:
+        raise Trouble(BAD_WORDS, "options '--deepen' and '--depth' cannot be used together")
+    if asked.unshallow and asked.depth is not None:
+        raise Trouble(BAD_WORDS, "options '--depth' and '--unshallow' cannot be used together")
+    if asked.unshallow and not repository.border():
+        raise Trouble(BAD_WORDS, "--unshallow on a complete repository does not make sense")
+    for word, value in (("depth", asked.depth), ("deepen", asked.deepen)):
+        if value is not None and not (value.isdecimal() and 0 < int(value) <= INFINITE):
+            raise Trouble(BAD_WORDS, f"{word} {value} is not a positive number")
+    depth = str(INFINITE) if asked.unshallow else asked.depth
+    since = asked.shallow_since and repository.text("rev-parse", f"--since={asked.shallow_since}").partition("=")[2]
+    found = [("depth", depth and str(int(depth))), ("deepen", asked.deepen and str(int(asked.deepen))), ("since", since),
+             *(("not", name) for name in asked.shallow_exclude)]
+    return [f"{word} {value}" for word, value in found if value]

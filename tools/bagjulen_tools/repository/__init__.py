@@ -1,0 +1,1 @@
+"""Real repositories: what stands in one, and what is changed in one."""

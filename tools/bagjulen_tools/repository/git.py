@@ -1,0 +1,196 @@
+"""What is asked of a real repository, and of the `git` that stands on this machine."""
+
+import os
+import subprocess
+
+from bagjulen_tools.formats.plainpack import Object
+from bagjulen_tools.protocol.lines import decoded_text
+from bagjulen_tools.trouble import BAD_INPUT, GIT_REFUSED, Trouble
+
+# Nothing of the caller's repository is to reach another one, and messages are to be those of Git's source.
+OWN_ENVIRONMENT = {"LC_ALL": "C", "GIT_NO_REPLACE_OBJECTS": "1", "GIT_OPTIONAL_LOCKS": "0"}
+FOREIGN = ("GIT_DIR", "GIT_WORK_TREE", "GIT_INDEX_FILE", "GIT_OBJECT_DIRECTORY", "GIT_COMMON_DIR",
+           "GIT_ALTERNATE_OBJECT_DIRECTORIES", "GIT_NAMESPACE", "GIT_PREFIX", "GIT_SHALLOW_FILE")
+# How the files end that keep others away from the file without it.
+LOCK = ".lock"
+
+
+def environment(more):
+    """The environment that Git runs in."""
+    kept = {name: value for name, value in os.environ.items() if name not in FOREIGN}
+    return {**kept, **OWN_ENVIRONMENT, **more}
+
+
+def run_git(words, given=b"", more=None):
+    """Runs Git. Answers its status, what it wrote, and its messages."""
+    try:
+        ended = subprocess.run(["git", *words], input=given, capture_output=True, env=environment(more or {}))
+    except FileNotFoundError:
+        raise Trouble(GIT_REFUSED, "there is no `git` on this machine") from None
+    return ended.returncode, ended.stdout, decoded_text(ended.stderr)
+
+
+def git(words, given=b"", more=None):
+    """What Git writes. Its message is the trouble where it refuses."""
+    status, out, messages = run_git(words, given, more)
+    if status != 0:
+        raise Trouble(GIT_REFUSED, f"git refused: {why(messages)}")
+    return out
+
+
+def why(messages):
+    """The first line of Git's messages that says what was wrong."""
+    lines = [line for line in messages.splitlines() if line.strip()]
+    told = [line for line in lines if line.startswith(("fatal:", "error:"))]
+    return (told or lines or ["nothing is told"])[0]
+
+
+class Repository:
+    """A repository on this machine. Of a path inside its work tree, Git runs at the top: in a folder below `git index-pack`
+    would put its pack there.
+    """
+
+    def __init__(self, path):
+        status, out, messages = run_git(["-C", path, "rev-parse", "--absolute-git-dir", "--git-common-dir", "--show-cdup"])
+        if status != 0:
+            raise Trouble(BAD_INPUT, f"{path} is no repository: {why(messages)}")
+        self.git_dir, common, *up = decoded_text(out).splitlines()
+        self.common_dir = os.path.normpath(os.path.join(path, common))
+        self.path = os.path.normpath(os.path.join(path, *up))
+
+    def git(self, *words, given=b"", more=None):
+        """What Git writes when it runs in this repository."""
+        return git(["-C", self.path, *words], given, more)
+
+    def text(self, *words):
+        """The one line that Git writes."""
+        return decoded_text(self.git(*words)).removesuffix("\n")
+
+    def hash_name(self):
+        """`sha1` or `sha256`."""
+        return self.text("rev-parse", "--show-object-format")
+
+    def truth(self, key):
+        """What the configuration says of a key, which has a truth value, or None where it says nothing."""
+        status, out, messages = run_git(["-C", self.path, "config", "--type=bool", "--get", key])
+        if status not in (0, 1):
+            raise Trouble(GIT_REFUSED, f"git refused: {why(messages)}")
+        return out == b"true\n" if status == 0 else None
+
+    def work_tree(self):
+        """The directory of the work tree, or None in a bare repository."""
+        if self.text("rev-parse", "--is-bare-repository") == "true":
+            return None
+        if self.text("rev-parse", "--is-inside-work-tree") == "true":
+            return self.text("rev-parse", "--show-toplevel")
+        return os.path.dirname(self.git_dir)
+
+    def abbreviated(self, ids):
+        """The commits among these ids, each with its digits that tell it from others."""
+        given = "".join(f"{digits}\n" for digits in ids).encode()
+        words = ["rev-list", "--no-walk=unsorted", "--ignore-missing", "--no-commit-header", "--format=%H %h", "--stdin"]
+        out = decoded_text(self.git(*words, given=given)) if ids else ""
+        return dict(line.split(" ") for line in out.splitlines())
+
+    def references(self):
+        """Each reference under `refs/`, and `HEAD`: an id in hex, or `@` and the name that it stands for."""
+        direct = self.direct_references()
+        target = symbolic_target(self.place("HEAD"))
+        head = self.head() if target is None else {"HEAD": f"@{target}"}
+        return direct | self._symbolic_references(direct) | head
+
+    def direct_references(self):
+        """The references under `refs/` that are ids."""
+        out = decoded_text(self.git("for-each-ref", "--format=%(objectname) %(symref) %(refname)"))
+        lines = (line.split(" ") for line in out.split("\n")[:-1])
+        return {name: digits for digits, symbolic, name in lines if not symbolic}
+
+    def _symbolic_references(self, direct):
+        """The references under `refs/` that stand for a name, also those that lead nowhere, which Git doesn't list."""
+        found = {}
+        for folder, _, files in os.walk(os.path.join(self.common_dir, "refs")):
+            front = os.path.relpath(folder, self.common_dir)
+            for file in files:
+                name = f"{front}/{file}"
+                if name not in direct and not name.endswith(LOCK):
+                    target = symbolic_target(os.path.join(folder, file))
+                    found |= {} if target is None else {name: f"@{target}"}
+        return found
+
+    def head(self):
+        """`HEAD` with `@` and the name at the end of its names, or with its id."""
+        status, out, _ = run_git(["-C", self.path, "symbolic-ref", "-q", "HEAD"])
+        if status == 0:
+            return {"HEAD": f"@{decoded_text(out).strip()}"}
+        return {"HEAD": self.text("rev-parse", "--verify", "HEAD")}
+
+    def place(self, name):
+        """The file of a reference that isn't packed."""
+        return os.path.join(self.git_dir if name == "HEAD" else self.common_dir, name)
+
+    def log_place(self, name):
+        """The file of a reference's log."""
+        return os.path.join(self.git_dir if name == "HEAD" else self.common_dir, "logs", name)
+
+    def shallow_file(self):
+        """Where the border stands."""
+        return os.path.join(self.common_dir, "shallow")
+
+    def border(self):
+        """The ids of the border, ascending."""
+        try:
+            with open(self.shallow_file(), encoding="ascii") as file:
+                return sorted(file.read().split())
+        except FileNotFoundError:
+            return []
+
+    def reached_commits(self):
+        """The commits that references reach."""
+        return set(self.text("rev-list", "--all").split())
+
+    def worktrees(self):
+        """Each branch that is checked out, with its directory."""
+        found = []
+        for record in self.text("worktree", "list", "--porcelain", "-z").split("\0\0"):
+            values = dict(field.partition(" ")[::2] for field in record.split("\0"))
+            if "branch" in values:
+                found.append((values["branch"], values["worktree"]))
+        return found
+
+    def entries(self, overrides=()):
+        """Each entry of the configuration in force, in order: its key, and its value or None."""
+        words = [word for override in overrides for word in ("-c", override)]
+        out = decoded_text(self.git(*words, "config", "--list", "-z"))
+        for entry in out.split("\0")[:-1]:
+            key, has_value, value = entry.partition("\n")
+            yield key, value if has_value else None
+
+    def objects(self):
+        """All objects, each once."""
+        return objects_in(self.git("cat-file", "--batch-all-objects", "--unordered", "--batch"))
+
+    def stored_ids(self):
+        """The ids of all objects. The empty tree, which Git knows by itself, is there only where it is stored."""
+        out = self.git("cat-file", "--batch-all-objects", "--unordered", "--batch-check=%(objectname)")
+        return set(out.decode("ascii").split())
+
+
+def symbolic_target(path):
+    """The name that a file of references stands for, or None."""
+    try:
+        with open(path, "rb") as file:
+            text = decoded_text(file.read(4096))
+    except OSError:
+        return None
+    return text.removeprefix("ref:").strip() if text.startswith("ref:") else None
+
+
+def objects_in(batch):
+    """The objects that `git cat-file --batch` wrote."""
+    found, place = [], 0
+    while place < len(batch):
+        end = batch.index(b"\n", place)
+        digits, kind, length = batch[place:end].decode("ascii").split(" ")
+        place = end + 1 + int(length) + 1
+        found.append(Object(digits, kind, batch[end + 1 : place - 1]))
+    return found

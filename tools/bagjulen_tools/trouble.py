@@ -1,0 +1,82 @@
+"""How a tool ends: its statuses, its one line for what went wrong, and its words."""
+
+import argparse
+import sys
+
+DONE = 0
+DIFFERENT = 1
+BAD_WORDS = 2
+BAD_INPUT = 3
+GIT_REFUSED = 4
+ENGINE_FAILED = 5
+CHANGED = 6
+# What a shell tells of a program that an interrupt ended.
+INTERRUPTED = 130
+
+STATUSES = """\
+statuses:
+  0  it was done{one}
+  2  the words are wrong
+  3  what they name is no repository, scene, report or bundle, or can't be read or written
+  4  Git refused
+  5  the engine failed
+  6  the repository was changed meanwhile, or has what a bundle has otherwise, and nothing was moved
+
+Whatever isn't done gets one line on standard error."""
+
+
+class Trouble(Exception):
+    """Why a tool can't go on: the status that it ends with, and one line of text."""
+
+    def __init__(self, status, text):
+        super().__init__(text)
+        self.status = status
+
+
+class ToolParser(argparse.ArgumentParser):
+    """The words of a tool. A wrong one gets one line and status 2. `one` says when its status is 1, if ever."""
+
+    def __init__(self, description, one=None):
+        super().__init__(
+            description=description,
+            epilog=STATUSES.format(one="" if one is None else f"\n  1  {one}"),
+            formatter_class=argparse.RawDescriptionHelpFormatter,
+            allow_abbrev=False,
+        )
+
+    def error(self, message):
+        raise Trouble(BAD_WORDS, f"{message} (--help tells more)")
+
+
+def end(main):
+    """Runs a tool with the words of the command line, and ends with its status."""
+    try:
+        status = main(sys.argv[1:])
+        sys.stdout.flush()
+    except Trouble as trouble:
+        print(f"{sys.argv[0].rpartition('/')[2]}: {trouble}", file=sys.stderr)
+        status = trouble.status
+    except KeyboardInterrupt:
+        status = INTERRUPTED
+    except BrokenPipeError:
+        sys.stdout = None
+        status = BAD_INPUT
+    sys.exit(status)
+
+
+def read_file(path):
+    """The bytes of a file."""
+    try:
+        with open(path, "rb") as file:
+            return file.read()
+    except OSError as error:
+        raise Trouble(BAD_INPUT, f"can't read {path}: {error.strerror}") from None
+
+
+def write_file(path, data):
+    """Writes a file anew."""
+    try:
+        with open(path, "wb") as file:
+            file.write(data)
+    except OSError as error:
+        raise Trouble(BAD_INPUT, f"can't write {path}: {error.strerror}") from None
