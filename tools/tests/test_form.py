@@ -143,6 +143,10 @@ pub record IsDone {X E : Type 0} (old new : ℕ) : Type 0 where
 
 pub record Line : Type 0 where
   pub text : List ℕ
+
+pub record IsLong {X : Type 0} (old new : ℕ) (told : X → Type 0)
+    (one two : List ℕ) (last : X) : Type 0 where
+  pub one : old ≡ new
 """
 
 
@@ -179,7 +183,8 @@ class Survey(unittest.TestCase):
         self.assertEqual(list(survey.clauses_of("a.rt", lines)), [(["held", "cause"], "long", "a.rt"), ([], "short", "a.rt")])
         self.assertEqual(survey.code_lines(survey.body_of(lines, 0)), 5)
         lines = [survey.Line(number, text) for number, text in enumerate(RECORDS.splitlines(), 1)]
-        self.assertEqual(list(survey.records_of("A.antt", lines)), [(4, 2, "IsDone", "A.antt"), (0, 1, "Line", "A.antt")])
+        self.assertEqual(list(survey.records_of("A.antt", lines)), [
+            (4, 2, "IsDone", "A.antt"), (0, 1, "Line", "A.antt"), (7, 1, "IsLong", "A.antt")])
 
 
 class DeadNames(unittest.TestCase):

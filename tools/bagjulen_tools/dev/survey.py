@@ -248,8 +248,11 @@ def records_of(path, lines):
         match = RECORD.match(line.text)
         if match:
             end_at = next((n for n in range(at + 1, len(lines)) if lines[n].text and lines[n].indent() == 0), len(lines))
+            # The head goes up to its `where`, on whichever line that stands.
+            head = " ".join(each.text.strip() for each in lines[at:end_at]).partition(" where")[0]
+            front = head.rpartition(" : Type")[0]
             fields = sum(each.text.startswith("  pub ") for each in lines[at:end_at])
-            yield sum(len(each.split()) for each in PARAMETERS.findall(match[2].rpartition(" : Type")[0])), fields, match[1], path
+            yield sum(len(each.split()) for each in PARAMETERS.findall(front)), fields, match[1], path
 
 
 def numbers(crates):
