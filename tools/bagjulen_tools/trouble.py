@@ -33,6 +33,19 @@ class Trouble(Exception):
         self.status = status
 
 
+class ToldTrouble(Trouble):
+    """A trouble of which a program below has told already."""
+
+    def __init__(self, status: int) -> None:
+        super().__init__(status, "")
+
+
+def one_line(text: str) -> str:
+    """A text of others on one line: its lines side by side, and as Git has it `?` for what controls a terminal."""
+    joined = " ".join(line.strip() for line in text.splitlines() if line.strip())
+    return "".join("?" if ord(letter) < 32 or ord(letter) == 127 else letter for letter in joined)
+
+
 class ToolParser(argparse.ArgumentParser):
     """The words of a tool. A wrong one gets one line and status 2. `one` says when its status is 1, if ever."""
 
@@ -54,7 +67,8 @@ def end(main):
         status = main(sys.argv[1:])
         sys.stdout.flush()
     except Trouble as trouble:
-        print(f"{sys.argv[0].rpartition('/')[2]}: {trouble}", file=sys.stderr)
+        if not isinstance(trouble, ToldTrouble):
+            print(f"{sys.argv[0].rpartition('/')[2]}: {trouble}", file=sys.stderr)
         status = trouble.status
     except KeyboardInterrupt:
         status = INTERRUPTED

@@ -12,7 +12,8 @@ from http_backend import served
 
 from common import ALONE, TOOLS
 from bagjulen_tools.engine import BUILT
-from bagjulen_tools.remote.messages import anonymous, trimmed
+from bagjulen_tools.protocol.address import anonymous
+from bagjulen_tools.remote.messages import trimmed
 from bagjulen_tools.repository.git import Repository
 from bagjulen_tools.trouble import read_file
 

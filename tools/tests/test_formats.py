@@ -28,7 +28,7 @@ class Lines(unittest.TestCase):
         for text, place in cases:
             with self.assertRaises(MalformedLine) as caught:
                 list(placed_lines(text))
-            self.assertEqual(caught.exception.args, (place,))
+            self.assertEqual(caught.exception.place, place)
 
 
 class Packs(unittest.TestCase):

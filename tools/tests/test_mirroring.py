@@ -44,7 +44,7 @@ class Mirroring(WithRepositories):
         self.assertEqual(reached_ids(theirs), set())
 
     def test_what_is_refused(self):
-        self.assert_line(self.mirrored(behaviour="refused"), DIFFERENT, "the mirror was refused: ShallowServer")
+        self.assert_line(self.mirrored(behaviour="refused"), DIFFERENT, "the mirror was refused: the source repository is shallow")
         self.assertFalse(os.path.exists(self.path("ours.git")))
         os.mkdir(self.path("ours.git"))
         os.mkdir(self.path("ours.git/refs"))

@@ -32,7 +32,7 @@ class Served(WithRepositories):
             for said in (FIRST, LISTING, self.wanted(self.tip)):
                 served.stdin.write(said)
                 served.stdin.flush()
-                replies.append(lines_from(served.stdout))
+                replies.append(lines_from(served.stdout).data)
             served.stdin.close()
             self.assertEqual((served.stdout.read(), served.wait()), (b"", 0))
         greeting, listing, reply = replies

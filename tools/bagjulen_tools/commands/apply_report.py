@@ -8,6 +8,7 @@ Objects stand before anything moves, and then border and references move togethe
 refused, and what a run leaves that is killed.
 """
 
+from bagjulen_tools.formats.refusals import refusal_words
 from bagjulen_tools.formats.report import read_report
 from bagjulen_tools.formats.scene import read_scene
 from bagjulen_tools.repository.apply import SCENES_COMMITTER, apply
@@ -32,7 +33,7 @@ def main(arguments: list[str]) -> int:
     report = read_report(read_file(asked.report))
     repository = Repository(asked.repository)
     if report.refused is not None:
-        raise Trouble(DIFFERENT, f"the fetch was refused: {report.refused}")
+        raise Trouble(DIFFERENT, f"the fetch was refused: {refusal_words(report.refused)}")
     if repository.hash_name() != scene.hash_name:
         raise Trouble(BAD_INPUT, f"{asked.repository} has {repository.hash_name()}, and the scene {scene.hash_name}")
     objects, references = apply(repository, scene, report, SCENES_COMMITTER if asked.scenes_committer else None)

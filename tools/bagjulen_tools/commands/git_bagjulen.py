@@ -2,9 +2,11 @@
 
     git bagjulen fetch [<options>] [<repository> [<refspec>...]]
     git bagjulen clone [<options>] <repository> [<directory>]
+    git bagjulen version
 
 The words are those of `git fetch` and `git clone`; what isn't supported is refused by its name. Addresses are paths,
 file://, http://, https://, ssh://, git://, and host:path. docs/REAL-GIT.md says what of such a run is proved.
+`git bagjulen fetch -h` and `git bagjulen clone -h` tell the words; `--help` Git itself takes for a manual page.
 
 Statuses: 0 where it was done, 1 where some reference was rejected, 128 where it wasn't done, with a line `fatal: ..`.
 """
@@ -12,13 +14,14 @@ Statuses: 0 where it was done, 1 where some reference was rejected, 128 where it
 import argparse
 import os
 import sys
+from typing import NoReturn
 
 from bagjulen_tools.engine import PROGRAM, Engine
+from bagjulen_tools.protocol.address import anonymous
 from bagjulen_tools.remote.clone import clone
 from bagjulen_tools.remote.fetch import FetchOptions, choose_tags, depth_options, fetch, plan_of
-from bagjulen_tools.remote.messages import anonymous
 from bagjulen_tools.repository.git import Repository
-from bagjulen_tools.trouble import BAD_WORDS, Trouble
+from bagjulen_tools.trouble import BAD_WORDS, ToldTrouble, Trouble
 
 FATAL = 128
 
@@ -26,16 +29,18 @@ FATAL = 128
 class GitParser(argparse.ArgumentParser):
     """The words of a command. What isn't known is refused by its name."""
 
-    def __init__(self, name, description):
+    def __init__(self, name: str, description: str) -> None:
         super().__init__(prog=f"git bagjulen {name}", description=description, allow_abbrev=False)
 
-    def error(self, message):
+    def error(self, message: str) -> NoReturn:
         raise Trouble(BAD_WORDS, message)
 
-    def read(self, given):
+    def read(self, given: list[str]) -> argparse.Namespace:
+        """What the words say."""
         asked, others = self.parse_known_intermixed_args(given)
-        if others:
-            raise Trouble(BAD_WORDS, f"{others[0].partition('=')[0]} isn't supported by git bagjulen")
+        values = [asked.repository, *getattr(asked, "refspecs", ())] if "--" not in given else []
+        for word in [*others, *(value for value in values if value is not None and value.startswith("-"))]:
+            raise Trouble(BAD_WORDS, f"{word.partition('=')[0]} isn't supported by git bagjulen")
         return asked
 
 
@@ -126,18 +131,36 @@ def run_clone(given: list[str]) -> int:
     return clone(asked, options_of(asked), Engine(PROGRAM))
 
 
-COMMANDS = {"fetch": run_fetch, "clone": run_clone}
+def run_help(_: list[str]) -> int:
+    print(__doc__, end="")
+    print(f"\nThe engine is {PROGRAM}; BAGJULEN names another one.")
+    return 0
+
+
+def run_version(_: list[str]) -> int:
+    print(Engine(PROGRAM).version())
+    return 0
+
+
+COMMANDS = {"fetch": run_fetch, "clone": run_clone, "help": run_help, "version": run_version}
+WORDS_OF_ITS_OWN = {"-h": "help", "--help": "help", "-v": "version", "--version": "version"}
+LABELS = ("git refused: ", "fatal: ", "error: ")
 
 
 def main(arguments: list[str]) -> int:
-    if arguments[:1] in ([], ["-h"], ["--help"]):
-        print(__doc__, end="")
-        print(f"\nThe engine is {PROGRAM}; BAGJULEN names another one.")
-        return 0 if arguments else FATAL
+    if not arguments:
+        run_help([])
+        return FATAL
+    command = WORDS_OF_ITS_OWN.get(arguments[0], arguments[0])
     try:
-        if arguments[0] not in COMMANDS:
-            raise Trouble(BAD_WORDS, f"'{arguments[0]}' is no command of git bagjulen, which are fetch and clone")
-        return COMMANDS[arguments[0]](arguments[1:])
+        if command not in COMMANDS:
+            raise Trouble(BAD_WORDS, f"'{command}' is no command of git bagjulen, which are {', '.join(COMMANDS)}")
+        return COMMANDS[command](arguments[1:])
+    except ToldTrouble:
+        return FATAL
     except Trouble as trouble:
-        print(f"fatal: {str(trouble).removeprefix('git refused: ').removeprefix('fatal: ')}", file=sys.stderr)
+        text = str(trouble)
+        for label in LABELS:
+            text = text.removeprefix(label)
+        print(f"fatal: {text}", file=sys.stderr)
         return FATAL

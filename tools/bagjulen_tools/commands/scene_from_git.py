@@ -5,11 +5,14 @@ References, work trees, border, configuration and objects are those of CLIENT. W
 on the scene so far, round by round. Neither repository is changed.
 """
 
+import argparse
 import os
 import sys
 import tempfile
 
 from bagjulen_tools.engine import PROGRAM, Engine
+from bagjulen_tools.formats.scene import Scene
+from bagjulen_tools.protocol.allowed import Entries
 from bagjulen_tools.protocol.connection import connect, local
 from bagjulen_tools.protocol.upload_pack import Server, unbundled
 from bagjulen_tools.remote.client import remote_of, scene_of
@@ -18,7 +21,7 @@ from bagjulen_tools.repository.git import Repository
 from bagjulen_tools.trouble import BAD_INPUT, DONE, GIT_REFUSED, ToolParser, Trouble, write_file
 
 
-def words(given):
+def words(given: list[str]) -> argparse.Namespace:
     """What the words say."""
     parser = ToolParser(__doc__)
     parser.add_argument("client", metavar="CLIENT", help="a repository")
@@ -39,9 +42,8 @@ def words(given):
     return parser.parse_intermixed_args(given)
 
 
-def begun(asked):
+def begun(asked: argparse.Namespace, client: Repository) -> Scene:
     """The scene without what the server says."""
-    client = Repository(asked.client)
     specs, tags = remote_of(client, asked.remote)
     scene = scene_of(client, asked.overrides, asked.without_head)
     scene.lenient = asked.lenient
@@ -53,22 +55,24 @@ def begun(asked):
     return scene
 
 
-def opened(address, folder):
+def opened(address: str, folder: str, entries: Entries) -> Server:
     """The server of a repository, a bundle or an address. A folder takes what a bundle has."""
     is_path = "://" not in address and (":" not in address or "/" in address.partition(":")[0])
     if is_path and not os.path.exists(address):
         raise Trouble(BAD_INPUT, f"{address} is no repository and no bundle: there is nothing")
     if os.path.isfile(address):
         return Server(local(unbundled(address, folder)))
-    return Server(local(Repository(address).git_dir) if is_path else connect(address))
+    return Server(local(Repository(address).git_dir) if is_path else connect(address, entries=entries))
 
 
 def main(arguments: list[str]) -> int:
     asked = words(arguments)
-    scene = begun(asked)
+    engine, client = Engine(asked.engine), Repository(asked.client)
+    engine.start()
+    scene = begun(asked, client)
     with tempfile.TemporaryDirectory() as folder:
-        server = opened(asked.server, folder)
-        converse(scene, server, Engine(asked.engine))
+        server = opened(asked.server, folder, client.entries(asked.overrides))
+        converse(scene, server, engine)
         server.close()
     if server.refusal is not None:
         raise Trouble(GIT_REFUSED, f"git upload-pack refused: {server.refusal}")

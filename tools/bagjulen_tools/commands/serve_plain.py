@@ -6,9 +6,11 @@ peer's bytes do between two requests.
 """
 
 import sys
+from collections.abc import Iterator
+from typing import IO
 
 from bagjulen_tools.protocol.connection import lines_from, local
-from bagjulen_tools.protocol.lines import MalformedLine, Mark, line_at, placed_lines
+from bagjulen_tools.protocol.lines import Line, MalformedLine, Mark, length_of, line_at, placed_lines
 from bagjulen_tools.protocol.upload_pack import Server
 from bagjulen_tools.repository.git import Repository
 from bagjulen_tools.trouble import BAD_INPUT, DONE, GIT_REFUSED, ToolParser, Trouble
@@ -16,30 +18,27 @@ from bagjulen_tools.trouble import BAD_INPUT, DONE, GIT_REFUSED, ToolParser, Tro
 FIRST = b"git-upload-pack "
 
 
-def say(data):
+def say(data: bytes) -> None:
     sys.stdout.buffer.write(data)
     sys.stdout.buffer.flush()
 
 
-def first_line(reader):
+def first_line(reader: IO[bytes]) -> bytes:
     """The payload of the line that stands before all requests."""
     digits = reader.read(4)
     try:
-        return line_at(digits + reader.read(max(int(digits, 16) - 4, 0)), 0)[0]
-    except (ValueError, MalformedLine):
+        line, _ = line_at(digits + reader.read(max(length_of(digits) - 4, 0)), 0)
+    except MalformedLine:
         return b""
+    return b"" if isinstance(line, Mark) else line
 
 
-def requests(reader):
+def requests(reader: IO[bytes]) -> Iterator[list[Line]]:
     """The requests that come, each its lines without the flush."""
-    while data := lines_from(reader):
-        try:
-            *lines, last = [line for _, line in placed_lines(data)]
-        except (ValueError, MalformedLine):
-            last = None
-        if last is not Mark.FLUSH:
+    while (came := lines_from(reader)).data:
+        if came.problem is not None:
             raise Trouble(BAD_INPUT, "the peer's bytes end within a request, or are no lines")
-        yield lines
+        yield [line for _, line in placed_lines(came.data)][:-1]
 
 
 def main(arguments: list[str]) -> int:

@@ -14,7 +14,7 @@ def shown(scene):
         for _, line in placed_lines(scene):
             yield line.value.decode() if isinstance(line, Mark) else repr(line)[2:-1]
     except MalformedLine as error:
-        yield f"(no line at {error})"
+        yield f"(no line at {error.place})"
 
 
 def main(arguments: list[str]) -> int:

@@ -73,7 +73,9 @@ def judged(data):
     """The bundle that the bytes are and two times None; or None, the name of why they are none, and its detail."""
     try:
         return _bundle(data), None, None
-    except (MalformedLine, NotWhole, MalformedPack, OtherId) as error:
+    except MalformedLine as error:
+        return None, type(error).__name__, error.place
+    except (NotWhole, MalformedPack, OtherId) as error:
         return None, type(error).__name__, error.args[0]
 
 

@@ -3,7 +3,7 @@
 import re
 from dataclasses import dataclass, field
 
-from bagjulen_tools.protocol.lines import Mark, decoded_text
+from bagjulen_tools.protocol.lines import Line, Mark, decoded_text
 from bagjulen_tools.trouble import BAD_INPUT, Trouble
 
 MAPPING = re.compile(r"(\d+) (.+?) -> (\(none\)|\S+): (.*?)( \[symbolic-to-direct\])?")
@@ -36,7 +36,7 @@ class LogLine:
 class Report:
     """What a report says."""
 
-    sent: list = field(default_factory=list)
+    sent: list[Line] = field(default_factory=list)
     mappings: list[Mapping] = field(default_factory=list)
     references: dict[str, str] = field(default_factory=dict)
     logs: list[LogLine] = field(default_factory=list)
@@ -44,9 +44,10 @@ class Report:
     ids: list[str] = field(default_factory=list)
     refused: str | None = None
 
-    def requests(self):
+    def requests(self) -> list[list[Line]]:
         """The requests after the first line, each a list of lines that ends before its flush."""
-        found, request = [], []
+        found: list[list[Line]] = []
+        request: list[Line] = []
         for line in self.sent[1:]:
             if line is Mark.FLUSH:
                 found.append(request)
@@ -56,11 +57,14 @@ class Report:
         return found
 
 
-def read_report(data):
-    """The report that the bytes are."""
+def read_report(data: bytes) -> Report:
+    """The report that the bytes are. One of a refusal is read to that: the text which it keeps may be of several lines."""
     report, ended = Report(), False
     for line in decoded_text(data).removesuffix("\n").split("\n"):
         word, _, value = line.partition(" ")
+        if word == "refused" and not ended:
+            report.refused = value
+            return report
         if ended or word not in READERS:
             raise _no_report(line)
         ended = word == "ok"
@@ -68,12 +72,12 @@ def read_report(data):
             READERS[word](report, value)
         except ValueError:
             raise _no_report(line) from None
-    if ended == (report.refused is not None):
+    if not ended:
         raise Trouble(BAD_INPUT, "no whole report: neither `ok` nor a refusal stands in it")
     return report
 
 
-def _no_report(line):
+def _no_report(line: str) -> Trouble:
     return Trouble(BAD_INPUT, f"no report: {line[:100]!r}")
 
 
@@ -112,10 +116,6 @@ def _read_log(report, value):
     report.logs.append(LogLine(name, old, new, message))
 
 
-def _read_refusal(report, value):
-    report.refused = value
-
-
 READERS = {
     ">": _read_sent,
     "map": _read_mapping,
@@ -124,6 +124,5 @@ READERS = {
     "border": lambda report, value: report.border.append(value),
     "id": lambda report, value: report.ids.append(value),
     "keep": lambda report, value: None,
-    "refused": _read_refusal,
     "ok": lambda report, value: None,
 }

@@ -78,7 +78,9 @@ class Scene:
         """The objects in the packs that the server sent."""
         try:
             return [each for pack in packs_in(b"".join(self.server)) for each in read_pack(pack, self.hash_name)]
-        except (MalformedLine, MalformedPack) as error:
+        except MalformedLine as error:
+            raise Trouble(BAD_INPUT, f"what the scene's server says is malformed at {error.place}") from None
+        except MalformedPack as error:
             raise Trouble(BAD_INPUT, f"what the scene's server says is malformed at {error}") from None
 
 
@@ -105,7 +107,7 @@ def _read(data, count):
     try:
         return _scene(*_parts(data, count))
     except MalformedLine as error:
-        raise Trouble(BAD_INPUT, f"no scene: malformed at {error}") from None
+        raise Trouble(BAD_INPUT, f"no scene: malformed at {error.place}") from None
     except MalformedPack as error:
         raise Trouble(BAD_INPUT, f"no scene: its pack is malformed at {error}") from None
     except ValueError:

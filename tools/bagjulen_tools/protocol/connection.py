@@ -5,60 +5,106 @@ import re
 import socket
 import subprocess
 import tempfile
-from urllib.parse import unquote, urlsplit
+from collections.abc import Callable
+from dataclasses import dataclass
+from typing import IO
 
-from bagjulen_tools.protocol.lines import Mark, decoded_text, encoded, encoded_text
+from bagjulen_tools.protocol.address import Address, parsed
+from bagjulen_tools.protocol.allowed import Entries, check_allowed
+from bagjulen_tools.protocol.lines import (
+    MAX_PAYLOAD,
+    Line,
+    Mark,
+    decoded_text,
+    encoded,
+    encoded_text,
+    length_of,
+)
 from bagjulen_tools.repository.git import environment, why
-from bagjulen_tools.trouble import BAD_INPUT, GIT_REFUSED, Trouble
+from bagjulen_tools.trouble import BAD_INPUT, GIT_REFUSED, ToldTrouble, Trouble, one_line
 
 PROTOCOL = {"GIT_PROTOCOL": "version=2"}
 # Behind each reply of a connection that Git's helper of HTTP makes.
 RESPONSE_END = b"0002"
-SCHEME = re.compile(r"([A-Za-z][\w+.-]*)://")
-HELPER = re.compile(r"([\w-]+)::")
 BUNDLES = (b"# v2 git bundle\n", b"# v3 git bundle\n")
-GIT_PORT = 9418
+GIT_PORT = "9418"
+ERROR, ERROR_BAND = b"ERR ", b"\3"
+HUNG_UP = "the remote end hung up unexpectedly"
+CUT_IN_PACK = "unexpected disconnect while reading sideband packet"
+NOTHING_CAME = "Could not read from remote repository."
+OTHER_VERSION = "the server doesn't speak version 2 of the protocol"
+MAX_LENGTH = MAX_PAYLOAD + 4
+
+
+@dataclass
+class Received:
+    """What came: its bytes, and why no flush ends them, or None where one does."""
+
+    data: bytes
+    problem: str | None
 
 
 class Connection:
     """A connection: what is read from, what is written to, and the process behind it, if there is one."""
 
-    def __init__(self, reader, writer, process=None, messages=None, is_helper=False):
+    def __init__(self, reader: IO[bytes], writer: IO[bytes], process: subprocess.Popen[bytes] | None = None,
+                 messages: IO[bytes] | None = None, is_helper: bool = False) -> None:
         self._reader, self._writer, self._process, self._messages = reader, writer, process, messages
         self._is_helper = is_helper
 
-    def greeting(self):
-        """What the server says first."""
-        said = lines_from(self._reader)
-        if not said.startswith(encoded(b"version 2\n")):
-            raise Trouble(GIT_REFUSED, self.why() or "the server doesn't speak version 2 of the protocol")
-        return said
+    def greeting(self) -> bytes:
+        """What the server says first, which tells version 2 of the protocol."""
+        came = lines_from(self._reader)
+        if came.problem is None and came.data.startswith(encoded(b"version 2\n")):
+            return came.data
+        if not came.data:
+            raise self._refusal(NOTHING_CAME)
+        if _is_of_other_version(came.data):
+            raise Trouble(GIT_REFUSED, OTHER_VERSION)
+        first = one_line(decoded_text(came.data[4 : length_of(came.data[:4])]))
+        raise self._refusal(came.problem or f"protocol error: expected sha/ref, got '{first}'")
 
-    def ask(self, request, heard):
-        """The bytes that answer a request, which is its lines without the flush. Each line is handed on as it comes."""
+    def _refusal(self, problem: str) -> Trouble:
+        """Why it can't be gone on: what the process behind says, or else the problem of what came."""
+        return Trouble(GIT_REFUSED, self.why_ended(problem))
+
+    def ask(self, request: list[Line], heard: Callable[[bytes], None]) -> Received:
+        """What answers a request, which is its lines without the flush. Each line is handed on as it comes."""
+        self.write(b"".join(map(encoded, [*request, Mark.FLUSH])))
+        came = lines_from(self._reader, heard)
+        if self._is_helper and came.problem is None and self._reader.read(4) != RESPONSE_END:
+            return Received(came.data, "git's helper of HTTP ended within a reply")
+        return came
+
+    def write(self, data: bytes) -> None:
+        """Writes to the other side. Where that has ended, what it said before can still be read."""
         try:
-            self._writer.write(b"".join(map(encoded, [*request, Mark.FLUSH])))
+            self._writer.write(data)
             self._writer.flush()
-        except BrokenPipeError:
-            return b""
-        said = lines_from(self._reader, heard)
-        if self._is_helper and said.endswith(Mark.FLUSH.value) and self._reader.read(4) != RESPONSE_END:
-            raise Trouble(GIT_REFUSED, "git's helper of HTTP ended within a reply")
-        return said
+        except OSError:
+            pass
 
-    def why(self):
+    def line(self) -> bytes:
+        """The text line that comes next, with its end."""
+        return self._reader.readline()
+
+    def why_ended(self, problem: str) -> str:
+        """Why a reply isn't whole: what the process behind it says where that ended, or else the problem of what came."""
+        return (self._why() if problem in (NOTHING_CAME, HUNG_UP, CUT_IN_PACK) else None) or problem
+
+    def _why(self) -> str | None:
         """What the process behind it said of its end, or None."""
-        if self._messages is None or self._process.wait() == 0:
+        if self._messages is None or self._process is None or self._process.wait() == 0:
             return None
         self._messages.seek(0)
         return why(decoded_text(self._messages.read()))
 
-    def close(self):
+    def close(self) -> None:
         """Ends the connection, and waits for the process behind it."""
         for each in (self._writer, self._reader):
             try:
                 each.close()
-            except BrokenPipeError:
+            except OSError:
                 pass  # The other side ended first.
         if self._process is not None:
             self._process.wait()
@@ -66,20 +112,63 @@ class Connection:
             self._messages.close()
 
 
-def lines_from(reader, heard=lambda line: None):
-    """The bytes of the lines up to a flush with it, or up to the end of what comes. Each line is handed on as it comes."""
-    said = []
+def _is_of_other_version(data: bytes) -> bool:
+    """Whether a greeting announces another version: by its name, or by an id as the first word."""
+    length = length_of(data[:4])
+    line = data[4:length]
+    if data == Mark.FLUSH.value:
+        return True
+    if length < 4 or len(data) < length or line == b"version 2\n":
+        return False
+    return re.match(rb"version \d|([0-9a-fA-F]{40}|[0-9a-fA-F]{64}) ", line) is not None
+
+
+def lines_from(reader: IO[bytes], heard: Callable[[bytes], None] = lambda line: None) -> Received:
+    """What comes up to a flush, or up to an error of the server or the end of what comes. Each line is handed on."""
+    said: list[bytes] = []
+    is_in_pack, error = False, None
     while True:
-        digits = reader.read(4)
-        length = int(digits, 16) if re.fullmatch(rb"[0-9a-fA-F]{4}", digits) else 0
-        data = reader.read(max(length - 4, 0))
-        said += [digits, data]
-        if length < 4 and digits != Mark.DELIMITER.value:
-            return b"".join(said)
-        heard(data)
+        data = _read(reader, 4)
+        length = length_of(data)
+        said.append(data)
+        if data == Mark.FLUSH.value:
+            return Received(b"".join(said), error)
+        if len(data) == 4 and data != Mark.DELIMITER.value and not 4 <= length <= MAX_LENGTH:
+            return Received(b"".join(said), error or _no_length(data, is_in_pack))
+        line = _read(reader, max(length - 4, 0))
+        said.append(line)
+        if len(data) < 4 or len(line) < length - 4:
+            return Received(b"".join(said), error or (CUT_IN_PACK if is_in_pack else HUNG_UP))
+        if line.startswith(ERROR):
+            return Received(b"".join(said), _remote_error(line[len(ERROR):]))
+        if is_in_pack and line.startswith(ERROR_BAND):
+            error = error or _remote_error(line[1:])
+        is_in_pack = is_in_pack or line == b"packfile\n"
+        heard(line)
 
 
-def is_bundle(path):
+def _no_length(digits: bytes, is_in_pack: bool) -> str:
+    """What is wrong with digits that are the length of no line."""
+    if digits == RESPONSE_END:
+        return CUT_IN_PACK if is_in_pack else HUNG_UP
+    length = length_of(digits)
+    told = f" {length}" if length else f" character: {one_line(decoded_text(digits))}"
+    return f"protocol error: bad line length{told}"
+
+
+def _remote_error(text: bytes) -> str:
+    return f"remote error: {one_line(decoded_text(text))}"
+
+
+def _read(reader: IO[bytes], count: int) -> bytes:
+    """So many bytes, or those that come before the end."""
+    try:
+        return reader.read(count)
+    except OSError:
+        return b""  # The connection was reset.
+
+
+def is_bundle(path: str) -> bool:
     """Whether a bundle stands there."""
     if not os.path.isfile(path):
         return False
@@ -87,24 +176,29 @@ def is_bundle(path):
         return file.readline(64) in BUNDLES
 
 
-def connect(address, name=""):
-    """The connection with the server of an address, as `git fetch` takes addresses; a name is that of the remote."""
-    scheme = SCHEME.match(address)
-    if address.startswith("-"):
-        raise Trouble(BAD_INPUT, f"strange pathname '{address}' blocked")
-    if HELPER.match(address) or scheme and scheme[1] not in WAYS:
-        raise Trouble(BAD_INPUT, f"the transport '{(HELPER.match(address) or scheme)[1]}' isn't supported")
-    if is_bundle(address):
-        raise Trouble(BAD_INPUT, f"'{address}' is a bundle, which git bagjulen doesn't fetch from")
-    if scheme:
-        return WAYS[scheme[1]](address, name)
-    host, colon, path = address.partition(":")
-    if colon and "/" not in host and not os.path.exists(address):
-        return _ssh(host, path, [])
-    return local(address)
+def connect(text: str, name: str = "", entries: Entries = ()) -> Connection:
+    """The connection with the server of an address, as `git fetch` takes addresses.
+
+    A name is that of the remote, and the entries are those of the configuration, which says what is allowed.
+    """
+    if text.startswith("-"):
+        raise Trouble(BAD_INPUT, f"strange pathname '{text}' blocked")
+    address, entries = parsed(text), list(entries)
+    check_allowed(address.transport, entries)
+    if address.transport not in WAYS or text.startswith(f"{address.transport}::"):
+        raise Trouble(BAD_INPUT, f"the transport '{address.transport}' isn't supported")
+    if is_bundle(text):
+        raise Trouble(BAD_INPUT, f"'{text}' is a bundle, which git bagjulen doesn't fetch from")
+    for kind, word in (("hostname", address.host), ("pathname", address.path)):
+        if word.startswith("-"):
+            raise Trouble(BAD_INPUT, f"strange {kind} '{word}' blocked")
+    return WAYS[address.transport](address, name, dict(entries))
 
 
-def _by_process(words, is_heard=True, is_helper=False):
+Last = dict[str, str | None]
+
+
+def _by_process(words: list[str], is_heard: bool = True, is_helper: bool = False) -> Connection:
     """A connection with a process. Where it is heard its messages are kept, and else they are shown."""
     messages = tempfile.TemporaryFile() if is_heard else None
     try:
@@ -112,61 +206,59 @@ def _by_process(words, is_heard=True, is_helper=False):
                                    env=environment(PROTOCOL))
     except OSError as error:
         raise Trouble(GIT_REFUSED, f"can't run {words[0]}: {error.strerror}") from None
+    assert process.stdin is not None and process.stdout is not None
     return Connection(process.stdout, process.stdin, process, messages, is_helper)
 
 
-def local(path):
+def local(path: str) -> Connection:
     """The connection with a repository on this machine."""
     return _by_process(["git", "upload-pack", path])
 
 
-def _file(address, _):
-    return local(unquote(urlsplit(address).path))
+def _file(address: Address, _: str, __: Last) -> Connection:
+    return local(address.path)
 
 
-def _http(address, name):
+def _http(address: Address, name: str, _: Last) -> Connection:
     """The connection that Git's helper makes. It begins with the helper's own lines."""
-    scheme = SCHEME.match(address)[1]
-    wire = _by_process(["git", f"remote-{scheme}", name or address, address], is_heard=False, is_helper=True)
-    wire._writer.write(b"stateless-connect git-upload-pack\n")
-    wire._writer.flush()
-    if wire._reader.readline() != b"\n":
-        wire.close()
-        raise Trouble(GIT_REFUSED, f"'{address}' can't be read, or its server doesn't speak version 2 of the protocol")
-    return wire
+    words = ["git", f"remote-{address.transport}", name or address.text, address.text]
+    connection = _by_process(words, is_heard=False, is_helper=True)
+    connection.write(b"stateless-connect git-upload-pack\n")
+    answer = connection.line()
+    if answer != b"\n":
+        connection.close()
+        raise Trouble(GIT_REFUSED, OTHER_VERSION) if answer else ToldTrouble(GIT_REFUSED)
+    return connection
 
 
-def _ssh(host, path, port):
-    if host.startswith("-") or path.startswith("-"):
-        raise Trouble(BAD_INPUT, f"strange hostname or path: '{host}', '{path}'")
-    command = os.environ.get("GIT_SSH_COMMAND")
-    quoted = "'" + path.replace("'", "'\\''") + "'"
-    rest = ["-o", "SendEnv=GIT_PROTOCOL", *port, host, f"git-upload-pack {quoted}"]
-    if command is not None:
+def _ssh(address: Address, _: str, last: Last) -> Connection:
+    """The connection by the command of GIT_SSH_COMMAND, of `core.sshCommand` or of GIT_SSH, or else by `ssh`."""
+    command = os.environ.get("GIT_SSH_COMMAND") or last.get("core.sshcommand")
+    quoted = "'" + address.path.replace("'", "'\\''").replace("!", "'\\!'") + "'"
+    port = ["-p", address.port] if address.port else []
+    rest = ["-o", "SendEnv=GIT_PROTOCOL", *port, address.host, f"git-upload-pack {quoted}"]
+    if command:
         return _by_process(["sh", "-c", f'{command} "$@"', "ssh", *rest], is_heard=False)
     return _by_process([os.environ.get("GIT_SSH", "ssh"), *rest], is_heard=False)
 
 
-def _ssh_address(address, _):
-    parts = urlsplit(address)
-    user = f"{unquote(parts.username)}@" if parts.username else ""
-    path = unquote(parts.path)
-    port = ["-p", str(parts.port)] if parts.port else []
-    return _ssh(f"{user}{parts.hostname}", path[1:] if path.startswith("/~") else path, port)
-
-
-def _git(address, _):
-    parts = urlsplit(address)
+def _git(address: Address, _: str, __: Last) -> Connection:
+    """The connection with a daemon of Git."""
+    if {"\n", "\0"} & set(address.authority + address.path):
+        raise Trouble(BAD_INPUT, "newline is forbidden in git:// hosts and repo paths")
+    port = address.port or GIT_PORT
     try:
-        made = socket.create_connection((parts.hostname, parts.port or GIT_PORT))
+        made = socket.create_connection((address.host, int(port)))
+    except socket.gaierror as error:
+        raise Trouble(GIT_REFUSED, f"unable to look up {address.host} (port {port}) ({error.strerror})") from None
     except OSError as error:
-        raise Trouble(GIT_REFUSED, f"unable to connect to {parts.netloc}: {error.strerror or error}") from None
-    stream = made.makefile("rwb")
+        raise Trouble(GIT_REFUSED, f"unable to connect to {address.host}: {error.strerror or error}") from None
+    reader, writer = made.makefile("rb"), made.makefile("wb")
     made.close()
-    first = f"git-upload-pack {unquote(parts.path)}\0host={parts.netloc}\0\0version=2\0"
-    stream.write(encoded(encoded_text(first)))
-    stream.flush()
-    return Connection(stream, stream)
+    connection = Connection(reader, writer)
+    connection.write(encoded(encoded_text(f"git-upload-pack {address.path}\0host={address.authority}\0\0version=2\0")))
+    return connection
 
 
-WAYS = {"file": _file, "http": _http, "https": _http, "ssh": _ssh_address, "git": _git}
+WAYS: dict[str, Callable[[Address, str, Last], Connection]] = {
+    "file": _file, "http": _http, "https": _http, "ssh": _ssh, "git": _git}

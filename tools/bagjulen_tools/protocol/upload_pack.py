@@ -2,10 +2,11 @@
 
 import os
 import tempfile
+from collections.abc import Callable
 
-from bagjulen_tools.formats.plainpack import write_pack
-from bagjulen_tools.protocol.connection import is_bundle
-from bagjulen_tools.protocol.lines import MAX_PAYLOAD, Mark, encoded, pieces, placed_lines, text_of
+from bagjulen_tools.formats.plainpack import Object, write_pack
+from bagjulen_tools.protocol.connection import Connection, is_bundle
+from bagjulen_tools.protocol.lines import MAX_PAYLOAD, Line, Mark, encoded, pieces, placed_lines, text_of
 from bagjulen_tools.repository.git import git, objects_in
 from bagjulen_tools.trouble import BAD_INPUT, Trouble
 
@@ -16,56 +17,57 @@ FORMAT = "object-format="
 class Server:
     """A server that is fetched from over version 2 of the protocol.
 
-    `told` is handed what it says of its progress, which isn't asked for where that is None. `refusal` tells why it refused
-    a request, once it did.
+    `told` is handed what it says beside its replies; it is asked for its progress where `asks_progress` says so. `refusal`
+    tells why it refused a request, or why its reply isn't whole, once that is so.
     """
 
-    def __init__(self, wire, told=None):
-        self._wire, self._told, self.refusal = wire, told, None
-        self._greeting = wire.greeting()
+    def __init__(self, connection: Connection, told: Callable[[bytes], None] | None = None,
+                 asks_progress: bool = False) -> None:
+        self._connection, self._told, self._asks_progress = connection, told, asks_progress
+        self.refusal: str | None = None
+        self._greeting = connection.greeting()
         lines = [line for _, line in placed_lines(self._greeting) if isinstance(line, bytes)]
         self.hash_name = next((text_of(line)[len(FORMAT):] for line in lines if text_of(line).startswith(FORMAT)), "sha1")
 
-    def greeting(self):
+    def greeting(self) -> bytes:
         """The real greeting, with plain packs among the features of `fetch`."""
         return b"".join(encoded(_with_plain_packs(line)) for _, line in placed_lines(self._greeting))
 
-    def answer(self, request):
-        """The bytes that answer a request, which is its lines without the flush."""
+    def answer(self, request: list[Line]) -> bytes:
+        """The bytes that answer a request, which is its lines without the flush. Of a refused one, what came of them."""
         words = [text_of(line) for line in request if not isinstance(line, Mark)]
         version = next((PACK_WORDS[word] for word in words if word in PACK_WORDS), None)
         if version is None:
             return self._said(request)
         asked = [line for line in request if isinstance(line, Mark) or text_of(line) not in PACK_WORDS]
-        return self._with_plain_pack(self._said([*asked, b"no-progress\n"] if self._told is None else asked), version)
+        said = self._said(asked if self._asks_progress else [*asked, b"no-progress\n"])
+        return said if self.refusal is not None else self._with_plain_pack(said, version)
 
-    def _said(self, request):
+    def _said(self, request: list[Line]) -> bytes:
         """What real Git answers."""
-        said = self._wire.ask(request, self._hear)
-        if not said.endswith(Mark.FLUSH.value):
-            self.refusal = self._wire.why() or "the connection ended"
-        return said
+        came = self._connection.ask(request, self._hear)
+        if came.problem is not None:
+            self.refusal = self._connection.why_ended(came.problem)
+        return came.data
 
-    def _hear(self, line):
+    def _hear(self, line: bytes) -> None:
         if self._told is not None and line[:1] == b"\2":
             self._told(line[1:])
 
-    def close(self):
+    def close(self) -> None:
         """Ends the connection."""
-        self._wire.close()
+        self._connection.close()
 
-    def _with_plain_pack(self, said, version):
+    def _with_plain_pack(self, said: bytes, version: int) -> bytes:
         """A reply of real Git, with the objects of its pack in a plain pack."""
         front, bands = _split_at_pack(said)
         if bands is None:
             return front
         others = [line for line in bands if line[:1] != b"\1"]
         pack = b"".join(line[1:] for line in bands if line[:1] == b"\1")
-        if any(line[:1] == b"\3" for line in others):
-            return front + _in_bands(b"", others)
         return front + _in_bands(write_pack(self._unpacked(pack), version, self.hash_name), others)
 
-    def _unpacked(self, pack):
+    def _unpacked(self, pack: bytes) -> list[Object]:
         """The objects of one of Git's packs, in its order."""
         with tempfile.TemporaryDirectory() as folder:
             git(["init", "-q", "--bare", "--template=", f"--object-format={self.hash_name}", folder])
@@ -74,31 +76,33 @@ class Server:
             return objects_in(batch)
 
 
-def _with_plain_packs(line):
+def _with_plain_packs(line: Line) -> Line:
     if isinstance(line, bytes) and line.startswith(b"fetch="):
         return line.rstrip(b"\n") + b" plain-pack plain-pack-2\n"
     return line
 
 
-def _split_at_pack(said):
+def _split_at_pack(said: bytes) -> tuple[bytes, list[bytes] | None]:
     """The bytes up to the line `packfile` with it, and the band lines after it, or None where no pack comes."""
-    front, bands = [], None
+    front: list[bytes] = []
+    bands: list[bytes] | None = None
     for _, line in placed_lines(said):
         if bands is None:
             front.append(encoded(line))
             bands = [] if line == b"packfile\n" else None
-        elif line is not Mark.FLUSH:
+        elif not isinstance(line, Mark):
             bands.append(line)
     return b"".join(front), bands
 
 
-def _in_bands(pack, others):
+def _in_bands(pack: bytes, others: list[bytes]) -> bytes:
     """Band lines with these ones of other bands first, then the pack, then the flush."""
     cut = [b"\1" + piece for piece in pieces(pack, MAX_PAYLOAD - 1)]
-    return b"".join(map(encoded, [*others, *cut, Mark.FLUSH]))
+    lines: list[Line] = [*others, *cut, Mark.FLUSH]
+    return b"".join(map(encoded, lines))
 
 
-def unbundled(path, folder):
+def unbundled(path: str, folder: str) -> str:
     """A repository with what a bundle has, below a folder."""
     if not is_bundle(path):
         raise Trouble(BAD_INPUT, f"{path} is no bundle")

@@ -1,20 +1,25 @@
 """`git bagjulen clone`: Git's own steps around the engine's fetch."""
 
+import argparse
 import os
 import shutil
 import sys
 
-from bagjulen_tools.protocol.connection import connect
-from bagjulen_tools.protocol.lines import Mark, placed_lines, text_of
+from bagjulen_tools.engine import Engine
+from bagjulen_tools.protocol.address import anonymous
+from bagjulen_tools.protocol.connection import connect, is_bundle
+from bagjulen_tools.protocol.lines import Mark, decoded_text, placed_lines, text_of
 from bagjulen_tools.protocol.upload_pack import Server
-from bagjulen_tools.remote.fetch import FetchPlan, depth_options, fetch_from
-from bagjulen_tools.remote.messages import Progress, anonymous
-from bagjulen_tools.repository.git import Repository, git
-from bagjulen_tools.trouble import BAD_INPUT, DONE, GIT_REFUSED, Trouble
+from bagjulen_tools.remote.fetch import FetchOptions, FetchPlan, depth_options, fetch_from
+from bagjulen_tools.remote.messages import Progress
+from bagjulen_tools.repository.git import Repository, entries_in, git
+from bagjulen_tools.trouble import BAD_INPUT, DONE, GIT_REFUSED, Trouble, read_file
 
 LISTING = [b"command=ls-refs\n", Mark.DELIMITER, b"peel\n", b"symrefs\n", b"unborn\n", b"ref-prefix HEAD\n",
            b"ref-prefix refs/heads/\n", b"ref-prefix refs/tags/\n"]
 BRANCHES, TAGS, TARGET = "refs/heads/", "refs/tags/", "symref-target:"
+# The configuration that is read before there is a repository: none of another one that the command may stand in.
+NOWHERE = {"GIT_DIR": os.devnull}
 
 
 class Remote:
@@ -44,16 +49,19 @@ class Remote:
         return found
 
 
-def clone(asked, options, engine):
+def clone(asked: argparse.Namespace, options: FetchOptions, engine: Engine) -> int:
     """Clones, and answers the status."""
-    address = os.path.abspath(asked.repository) if os.path.exists(asked.repository) else asked.repository
+    address = address_of(asked.repository)
     is_bare = asked.bare or asked.mirror
     folder = asked.directory or humanish(asked.repository, is_bare)
     if os.path.exists(folder) and (not os.path.isdir(folder) or os.listdir(folder)):
         raise Trouble(BAD_INPUT, f"destination path '{folder}' already exists and is not an empty directory.")
+    engine.start()
     if options.verbosity >= 0:
         print(f"Cloning into {'bare repository ' * is_bare}'{folder}'...", file=sys.stderr)
-    server = Server(connect(address, asked.origin or "origin"), Progress() if options.has_progress else None)
+    source = decoded_text(git(["ls-remote", "--get-url", "--", address], more=NOWHERE)).removesuffix("\n")
+    connection = connect(source, asked.origin or "origin", entries_in(git(["config", "--list", "-z"], more=NOWHERE)))
+    server = Server(connection, Progress(), options.has_progress)
     was_there = os.path.isdir(folder)
     try:
         return _clone_from(server, asked, options, engine, address, folder)
@@ -62,6 +70,33 @@ def clone(asked, options, engine):
         raise
     finally:
         server.close()
+
+
+def address_of(word: str) -> str:
+    """The address that a word stands for: of a repository on this machine the whole path, which isn't made shorter.
+
+    As Git has it, `x` may stand for `x.git`, and a word without a colon can be nothing but a path.
+    """
+    found = next((word + end for end in ("/.git", "", ".git/.git", ".git") if is_repository(word + end)), None)
+    if found is not None or is_bundle(word):
+        return os.path.join(working_directory(), word)
+    if ":" not in word:
+        raise Trouble(BAD_INPUT, f"repository '{word}' does not exist")
+    return word
+
+
+def is_repository(path: str) -> bool:
+    """Whether a directory of Git's stands there, or a file that leads to one."""
+    if os.path.isfile(path):
+        return read_file(path)[:8] == b"gitdir: "
+    return all(os.path.exists(os.path.join(path, name)) for name in ("objects", "refs")) and os.path.lexists(
+        os.path.join(path, "HEAD"))
+
+
+def working_directory() -> str:
+    """Where the command stands, by the name that the caller's shell has for it."""
+    named, real = os.environ.get("PWD", ""), os.getcwd()
+    return named if os.path.isabs(named) and os.path.exists(named) and os.path.samefile(named, real) else real
 
 
 def _clear(folder, was_there):
@@ -78,7 +113,7 @@ def humanish(address, is_bare):
     path = address.rstrip("/").removesuffix("/.git").rstrip("/")
     name = path.rpartition("/")[2].rpartition(":")[2].removesuffix(".git").removesuffix(".bundle")
     if not name:
-        raise Trouble(BAD_INPUT, f"No directory name could be guessed for '{address}'")
+        raise Trouble(BAD_INPUT, "No directory name could be guessed. Please specify a directory on the command line")
     return f"{name}.git" if is_bare else name
 
 
@@ -94,7 +129,8 @@ def _clone_from(server, asked, options, engine, address, folder):
     if remote.is_empty():
         print("warning: You appear to have cloned an empty repository.", file=sys.stderr)
     else:
-        plan = FetchPlan(address, name, specs or ["HEAD"], tags=tags, options=depth_options(repository, asked))
+        specs = specs or ["HEAD"]
+        plan = FetchPlan(address, name, specs, tags=tags, options=depth_options(repository, asked), optional=specs)
         options.verbosity = verbosity if verbosity > 0 else -1
         fetch_from(server, repository, plan, options, engine, f"clone: from {anonymous(address)}")
     _point_head(repository, remote, chosen, asked, name, address)

@@ -4,16 +4,22 @@ import os
 import sys
 from dataclasses import dataclass, field
 
+from bagjulen_tools.engine import Engine
 from bagjulen_tools.formats.ancestry import links_of, reached
+from bagjulen_tools.formats.refusals import refusal_words
+from bagjulen_tools.formats.report import Mapping, Report
+from bagjulen_tools.formats.scene import Scene
 from bagjulen_tools.protocol.connection import connect
-from bagjulen_tools.protocol.lines import decoded_text, placed_lines, text_of
+from bagjulen_tools.protocol.lines import placed_lines, text_of
 from bagjulen_tools.protocol.upload_pack import Server
 from bagjulen_tools.remote import messages
 from bagjulen_tools.remote.client import remote_of, scene_of
 from bagjulen_tools.remote.conversation import converse
 from bagjulen_tools.remote.messages import IGNORED, MERGE, NOT_FOR_MERGE, RefUpdate
 from bagjulen_tools.remote.refspecs import brings, forced, is_from, sides, tracking
+from bagjulen_tools.remote.sources import check_sources
 from bagjulen_tools.repository.apply import apply
+from bagjulen_tools.repository.git import Repository
 from bagjulen_tools.trouble import BAD_WORDS, DIFFERENT, DONE, GIT_REFUSED, Trouble, write_file
 
 TAG_SPEC = "refs/tags/*:refs/tags/*"
@@ -37,7 +43,7 @@ class FetchPlan:
     """What is fetched: from where, by which refspecs, tags and options, and what of it is for a merge.
 
     `given` are the refspecs whose mappings are all for a merge, `merges` the names that are. `extra` refspecs lead where
-    FETCH_HEAD isn't told of.
+    FETCH_HEAD isn't told of. The sources of `optional` ones needn't be there.
     """
 
     address: str
@@ -48,6 +54,13 @@ class FetchPlan:
     merges: list[str] = field(default_factory=list)
     tags: str = "included"
     options: list[str] = field(default_factory=list)
+    optional: list[str] = field(default_factory=list)
+
+    def check_listed(self, scene: Scene) -> None:
+        """Refuses the fetch, once the server has listed its references, where one is asked for by name that isn't there."""
+        if len(scene.server) == 2:
+            specs = [spec for spec in self.specs if spec not in self.optional]
+            check_sources(specs, listed(scene), scene.hash_name)
 
     def is_for(self, mapping):
         """What a mapping is for."""
@@ -84,13 +97,14 @@ def plan_of(repository, word, specs, is_forced):
         found = FetchPlan(address, name, specs, specs, extra, tags=tags)
     elif configured or merges:
         lone = [merge for merge in merges if not any(brings(spec, merge) for spec in configured)]
-        found = FetchPlan(address, name, configured + lone, lone, merges=merges, tags=tags)
+        found = FetchPlan(address, name, configured + lone, lone, merges=merges, tags=tags, optional=lone)
         if not merges and configured and "*" not in configured[0]:
             found.given = configured[:1]
     else:
         found = FetchPlan(address, name, ["HEAD"], ["HEAD"], tags=tags)
     if is_forced:
-        found.specs, found.given, found.extra = (list(map(forced, each)) for each in (found.specs, found.given, found.extra))
+        for each in (found.specs, found.given, found.extra, found.optional):
+            each[:] = map(forced, each)
     return found
 
 
@@ -106,22 +120,26 @@ def choose_tags(plan, asked, is_forced):
         plan.tags, plan.specs = "none", [*plan.specs, forced(TAG_SPEC)]
 
 
-def fetch(repository, plan, options, engine, action):
+def fetch(repository: Repository, plan: FetchPlan, options: FetchOptions, engine: Engine, action: str) -> int:
     """Fetches, tells of it, and answers the status."""
-    server = Server(connect(plan.address, plan.name or ""), messages.Progress() if options.has_progress else None)
+    engine.start()
+    connection = connect(plan.address, plan.name or "", repository.entries())
+    server = Server(connection, messages.Progress(), options.has_progress)
     try:
         return fetch_from(server, repository, plan, options, engine, action)
     finally:
         server.close()
 
 
-def fetch_from(server, repository, plan, options, engine, action):
+def fetch_from(server: Server, repository: Repository, plan: FetchPlan, options: FetchOptions, engine: Engine,
+               action: str) -> int:
     """The same from a server that is connected."""
     scene = scene_of(repository)
     scene.address, scene.specs, scene.extra, scene.tags = plan.address, plan.specs, plan.extra, plan.tags
     scene.options = [*plan.options, f"action {' '.join(action.split())}"]
-    report = conversed(scene, server, engine, options.updates_shallow)
+    report = conversed(scene, server, engine, plan, options.updates_shallow)
     if report is None:
+        tell(repository, [], plan, options)
         return DONE
     told = told_of(scene, report, plan)
     if not options.is_dry:
@@ -130,39 +148,37 @@ def fetch_from(server, repository, plan, options, engine, action):
     return DIFFERENT if any(each.is_rejected() for each in told) else DONE
 
 
-def conversed(scene, server, engine, updates_shallow):
-    """The report of a fetch, or None where all that it would bring is left out.
+def conversed(scene: Scene, server: Server, engine: Engine, plan: FetchPlan, updates_shallow: bool) -> Report | None:
+    """The report of a fetch, or None where there is nothing to bring, or all of it is left out.
 
     Without `updates_shallow` and without a depth, references are left out that need a border of the server's own.
     """
     asks_depth = any(option.split()[0] in ("depth", "deepen", "since", "not") for option in scene.options)
-    is_left_out = False
     while True:
-        report = converse(scene, server, engine)
+        report = converse(scene, server, engine, plan.check_listed)
         if server.refusal is not None:
-            raise Trouble(GIT_REFUSED, server_says(scene) or server.refusal)
+            raise Trouble(GIT_REFUSED, server.refusal)
         needed = [] if updates_shallow or asks_depth or report.refused else mappings_of_new_border(scene, report)
         if not needed:
             break
-        is_left_out = True
         for each in needed:
             name = each.destination or each.source
             print(f"warning: rejected {name} because shallow roots are not allowed to be updated", file=sys.stderr)
         scene.specs = [*scene.specs, *(f"^{each.source}" for each in needed)]
     if report.refused is None:
         return report
-    if is_left_out and report.refused.startswith("NoMapping"):
+    if report.refused.startswith("NoMapping"):
         return None
-    raise Trouble(GIT_REFUSED, why_refused(report.refused, scene))
+    raise Trouble(GIT_REFUSED, refusal_words(report.refused))
 
 
-def listed(scene):
+def listed(scene: Scene) -> dict[str, str | None]:
     """The references that the server listed: the id of each, or None where it is unborn."""
     lines = [text_of(line).split(" ") for _, line in placed_lines(scene.server[1]) if isinstance(line, bytes)]
     return {name: None if digits == "unborn" else digits for digits, name, *_ in lines}
 
 
-def mappings_of_new_border(scene, report):
+def mappings_of_new_border(scene: Scene, report: Report) -> list[Mapping]:
     """The mappings whose history needs commits in the border that aren't there."""
     lines = [line for _, line in placed_lines(b"".join(scene.server[2:])) if isinstance(line, bytes)]
     new = {text_of(line).split(" ")[1] for line in lines if line.startswith(b"shallow ")} - set(scene.border)
@@ -170,22 +186,6 @@ def mappings_of_new_border(scene, report):
         return []
     links, ids = links_of([*scene.objects, *scene.received()]), listed(scene)
     return [each for each in report.mappings if not new.isdisjoint(reached(links, [ids.get(each.source)]))]
-
-
-def server_says(scene):
-    """The text of the server's own refusal, or None."""
-    said = scene.server[-1]
-    return f"remote error: {decoded_text(said[8:]).strip()}" if said[4:8] == b"ERR " else None
-
-
-def why_refused(token, scene):
-    """A refusal of the engine in words."""
-    name, _, kept = token.partition(" ")
-    if name == "ServerError":
-        return f"remote error: {kept}"
-    if name == "NoMapping":
-        return f"couldn't find remote ref {' '.join(sides(spec)[0] for spec in scene.specs)}"
-    return f"the engine refused the fetch: {token}"
 
 
 def told_of(scene, report, plan):

@@ -5,6 +5,7 @@ import shutil
 import sys
 from dataclasses import dataclass
 
+from bagjulen_tools.protocol.address import anonymous
 from bagjulen_tools.protocol.lines import decoded_text
 
 MERGE, NOT_FOR_MERGE, IGNORED = range(3)
@@ -40,16 +41,7 @@ def shown(name):
     return name[len(front):] if front else name
 
 
-def anonymous(address):
-    """An address without the user's name and password."""
-    front, at, rest = address.partition("@")
-    scheme, has_scheme, host = front.rpartition("://")
-    if not at or "/" in host or not has_scheme and (":" not in rest or "/" in front):
-        return address
-    return scheme + has_scheme + rest
-
-
-def trimmed(address):
+def trimmed(address: str) -> str:
     """An address as Git shows it: without slashes at the end, and without `.git`."""
     address = anonymous(address).rstrip("/")
     return address[:-4] if len(address) > 5 and address.endswith(".git") else address
@@ -109,10 +101,10 @@ def _told(told, abbreviated):
 class Progress:
     """The server's progress, each of its lines behind `remote: `."""
 
-    def __init__(self):
+    def __init__(self) -> None:
         self._rest = b""
 
-    def __call__(self, text):
+    def __call__(self, text: bytes) -> None:
         self._rest += text
         *whole, self._rest = re.split(rb"(?<=[\r\n])", self._rest)
         for line in whole:

@@ -2,6 +2,7 @@
 
 import os
 
+from bagjulen_tools.formats.refusals import refusal_words
 from bagjulen_tools.formats.scene import Scene
 from bagjulen_tools.repository.apply import apply
 from bagjulen_tools.repository.fsck import read_state
@@ -16,7 +17,7 @@ def mirror(server, place, workers, engine):
     state = read_state(server)
     report = engine.mirror(state.to_server_bytes(), workers)
     if report.refused is not None:
-        raise Trouble(DIFFERENT, f"the mirror was refused: {report.refused}")
+        raise Trouble(DIFFERENT, f"the mirror was refused: {refusal_words(report.refused)}")
     client = made(place, state.hash_name)
     # What stood in the client is what the report is compared with, and the objects' bytes are those of the server.
     before = Scene(hash_name=state.hash_name, git_dir=client.git_dir, objects=state.objects)

@@ -2,6 +2,7 @@
 
 import os
 import subprocess
+from collections.abc import Iterable, Iterator
 
 from bagjulen_tools.formats.plainpack import Object
 from bagjulen_tools.protocol.lines import decoded_text
@@ -157,13 +158,10 @@ class Repository:
                 found.append((values["branch"], values["worktree"]))
         return found
 
-    def entries(self, overrides=()):
+    def entries(self, overrides: Iterable[str] = ()) -> Iterator[tuple[str, str | None]]:
         """Each entry of the configuration in force, in order: its key, and its value or None."""
         words = [word for override in overrides for word in ("-c", override)]
-        out = decoded_text(self.git(*words, "config", "--list", "-z"))
-        for entry in out.split("\0")[:-1]:
-            key, has_value, value = entry.partition("\n")
-            yield key, value if has_value else None
+        return entries_in(self.git(*words, "config", "--list", "-z"))
 
     def objects(self):
         """All objects, each once."""
@@ -173,6 +171,13 @@ class Repository:
         """The ids of all objects. The empty tree, which Git knows by itself, is there only where it is stored."""
         out = self.git("cat-file", "--batch-all-objects", "--unordered", "--batch-check=%(objectname)")
         return set(out.decode("ascii").split())
+
+
+def entries_in(listed: bytes) -> Iterator[tuple[str, str | None]]:
+    """The entries that `git config --list -z` wrote: the key of each, and its value or None."""
+    for entry in decoded_text(listed).split("\0")[:-1]:
+        key, has_value, value = entry.partition("\n")
+        yield key, value if has_value else None
 
 
 def symbolic_target(path):

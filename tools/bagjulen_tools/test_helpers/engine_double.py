@@ -92,6 +92,9 @@ def mirror(data):
 
 
 def main(arguments: list[str]) -> int:
+    if arguments == ["--version"]:
+        say("bagjulen, its double")
+        return 0
     if BEHAVIOUR in ALONE:
         text, status = ALONE[BEHAVIOUR]
         say(text)

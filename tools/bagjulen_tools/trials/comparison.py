@@ -64,16 +64,22 @@ class Fetched:
             yield Difference(REFUSAL, "", self.real.refused or NOTHING, self.report.refused or NOTHING)
         yield from _of_maps(VERDICT, self.real.verdicts, self._engine_verdicts())
         yield from _of_maps(REFERENCE, self.real.references, self._engine_references())
-        yield from _of_maps(BORDER, _as_map(self.real.border), _as_map(self.report.border))
+        yield from _of_maps(BORDER, _as_map(self.real.border), _as_map(self._engine_border()))
 
     def _engine_verdicts(self):
         """The engine's verdicts of mappings with a destination, but for tags that the server didn't send."""
         return {key_of(each): each.mode for each in self.report.mappings
                 if each.destination is not None and each.mode != NOT_SENT}
 
-    def _engine_references(self):
+    def _engine_references(self) -> dict[str, str]:
+        """What the engine leaves, which after a refusal is what was there: of its report nothing more is read."""
+        if self.report.refused is not None:
+            return self.before
         head = {} if self.pair.has_head else {"HEAD": self.before["HEAD"]}
         return self.report.references | head
+
+    def _engine_border(self) -> list[str]:
+        return self.report.border if self.report.refused is None else self.border_before
 
     def mapping_of(self, difference):
         """The engine's mapping that a difference is about, or None."""

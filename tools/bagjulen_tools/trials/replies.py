@@ -183,7 +183,7 @@ def fetches(real, ours, asked):
     try:
         theirs, reply = read_reply(real), read_reply(ours)
     except MalformedLine as error:
-        yield f"a line at {error} that is none", None
+        yield f"a line at {error.place} that is none", None
         return
     if reply.error is None and _is_refused_depth(theirs, asked):
         yield f"a depth: Git has {theirs.error}", NO_DEPTH

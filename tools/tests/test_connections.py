@@ -1,0 +1,102 @@
+"""What comes over a connection: lines, errors of the server, and replies that are cut."""
+
+import io
+import subprocess
+import unittest
+
+from common import WithRepositories
+from bagjulen_tools.protocol.connection import Connection, lines_from, local
+from bagjulen_tools.protocol.lines import Line, MalformedLine, Mark, encoded, line_at
+from bagjulen_tools.protocol.upload_pack import Server
+from bagjulen_tools.trouble import Trouble
+
+FORMAT = b"object-format=sha1\n"
+LISTING: list[Line] = [b"command=ls-refs\n", FORMAT, Mark.DELIMITER, b"peel\n", b"symrefs\n"]
+GREETING = encoded(b"version 2\n") + encoded(b"ls-refs\n") + encoded(b"fetch=shallow\n") + encoded(FORMAT) + encoded(Mark.FLUSH)
+PACKFILE = encoded(b"packfile\n")
+PLACES = 200
+
+
+def over(said: bytes) -> Connection:
+    """A connection over which these bytes come, and no more."""
+    return Connection(io.BytesIO(said), io.BytesIO())
+
+
+class Lines(unittest.TestCase):
+    def test_the_digits_of_a_line_are_hexadecimal_in_either_case(self) -> None:
+        self.assertEqual(line_at(b"000Aabcdef", 0), (b"abcdef", 10))
+        for digits in (b"0x1e", b"+00a", b" 00a", b"1_0a", b"00 a", b"\xb2\xb2\xb2\xb2", b"000g", b"00"):
+            with self.assertRaises(MalformedLine):
+                line_at(digits + 40 * b"x", 0)
+            self.assertIsNotNone(lines_from(io.BytesIO(digits + 40 * b"x")).problem)
+
+    def test_what_is_no_line_is_a_trouble_in_one_line(self) -> None:
+        with self.assertRaisesRegex(Trouble, r"\A[^\n]+ 7\Z"):
+            raise MalformedLine(7)
+
+    def test_digits_that_are_none_are_told_as_git_does(self) -> None:
+        for digits, text in ((b"Welc", "bad line length character: Welc"), (b"a\x1b[m", r"bad line length character: a?[m"),
+                             (b"0003", "bad line length 3"), (b"ffff", "bad line length 65535")):
+            self.assertEqual(lines_from(io.BytesIO(digits + 9 * b"x")).problem, f"protocol error: {text}")
+
+
+class Replies(unittest.TestCase):
+    def assert_refused(self, reply: bytes, text: str) -> None:
+        """A reply behind the greeting is refused so, and what came of it is handed on."""
+        server = Server(over(GREETING + reply))
+        self.assertEqual((server.answer([b"command=fetch\n", b"plain-pack\n"]), server.refusal), (reply, text))
+
+    def test_errors_of_the_server(self) -> None:
+        for error, text in ((b"not our ref", "not our ref"), (b"a\n\nb\n", "a b"), (b"\x1b[2J\x07bell", "?[2J?bell")):
+            self.assert_refused(encoded(b"ERR " + error), f"remote error: {text}")
+            bands = PACKFILE + encoded(b"\2half\n") + encoded(b"\3" + error)
+            for end in (b"", b"0000", b"00"):
+                self.assert_refused(bands + end, f"remote error: {text}")
+
+    def test_what_begins_as_an_error_within_a_pack_is_none(self) -> None:
+        self.assert_refused(PACKFILE + encoded(b"\1ERR x"), "unexpected disconnect while reading sideband packet")
+
+    def test_a_cut_before_and_within_the_pack(self) -> None:
+        self.assert_refused(b"", "the remote end hung up unexpectedly")
+        self.assert_refused(encoded(b"shallow-info\n") + b"003", "the remote end hung up unexpectedly")
+        self.assert_refused(PACKFILE, "unexpected disconnect while reading sideband packet")
+        self.assert_refused(PACKFILE + encoded(b"\1" + 96 * b"0")[:-40], "unexpected disconnect while reading sideband packet")
+
+    def test_greetings(self) -> None:
+        for said, text in ((b"", "Could not read from remote repository."), (b"00", "the remote end hung up unexpectedly"),
+                           (GREETING[:-4], "the remote end hung up unexpectedly"),
+                           (encoded(b"ERR access denied"), "remote error: access denied"),
+                           (encoded(b"version 1\n"), "the server doesn't speak version 2 of the protocol"),
+                           (encoded(b"1" * 40 + b" HEAD\0multi_ack\n") + b"0000",
+                            "the server doesn't speak version 2 of the protocol"),
+                           (b"0000", "the server doesn't speak version 2 of the protocol"),
+                           (b"HTTP/1.1 400", "protocol error: bad line length character: HTTP"),
+                           (encoded(b"hello") + b"0000", "protocol error: expected sha/ref, got 'hello'")):
+            with self.subTest(said), self.assertRaises(Trouble) as caught:
+                Server(over(said))
+            self.assertEqual(str(caught.exception), text)
+
+
+class Cut(WithRepositories):
+    def test_a_conversation_that_is_cut_anywhere(self) -> None:
+        """It is refused in words at each of many places, the last bytes of all three replies among them."""
+        fetch: list[Line] = [b"command=fetch\n", FORMAT, Mark.DELIMITER, f"want {self.tip}\n".encode(), b"done\n"]
+        real = local(self.server)
+        self.addCleanup(real.close)
+        said = [real.greeting(), *(real.ask(each, lambda line: None).data for each in (LISTING, fetch))]
+        whole = b"".join(said)
+        ends = {len(b"".join(said[:number])) - back for number in (1, 2, 3) for back in range(1, 6)}
+        for place in sorted({*range(0, len(whole), -(-len(whole) // PLACES)), *ends}):
+            with self.subTest(place), self.assertRaisesRegex(Trouble, r"\A[A-Z a-z]+\.?\Z"):
+                server = Server(over(whole[:place]))
+                for request in (LISTING, [*fetch[:3], b"plain-pack\n", *fetch[3:]]):
+                    server.answer(request)
+                    if server.refusal is not None:
+                        raise Trouble(1, server.refusal)
+
+    def test_what_the_process_behind_says(self) -> None:
+        """Of a path that is no repository, as Git's first line."""
+        real = subprocess.run(["git", "ls-remote", self.folder], capture_output=True, env={"LC_ALL": "C", "PATH": "/usr/bin:/bin"})
+        with self.assertRaises(Trouble) as caught:
+            Server(local(self.folder))
+        self.assertEqual(str(caught.exception), real.stderr.decode().splitlines()[0])
