@@ -223,7 +223,7 @@ class Fetched(WithServer):
         self.work("bundle", "create", "-q", self.path("one.bundle"), "main")
         for words, text in [
             (["--prune"], "--prune isn't supported by git bagjulen"), (["--jobs=4"], "--jobs isn't supported"),
-            (["ftp://x/y"], "the transport 'ftp' isn't supported"), (["ext::sh"], "the transport 'ext' isn't supported"),
+            (["ftp://x/y"], "the transport 'ftp' isn't supported"), (["ext::sh"], "transport 'ext' not allowed"),
             (["nowhere"], "'nowhere' does not appear to be a git repository"), (["--depth", "0"], "depth 0 is not a positive"),
             (["--unshallow"], "--unshallow on a complete repository does not make sense"), (["origin", "tag"], "tag name"),
             (["--depth=1", "--deepen=1"], "cannot be used together"), (["origin", "absent"], "couldn't find remote ref absent"),
@@ -287,7 +287,7 @@ class Cloned(WithServer):
         open(self.path("full/file"), "w").close()
         for words, text in [(["-b", "absent", self.server], "Remote branch absent not found in upstream origin"),
                             ([self.server, "full"], "already exists and is not an empty directory"),
-                            ([self.path("nowhere")], "does not appear to be a git repository"),
+                            ([self.path("nowhere")], "does not exist"),
                             (["--recursive", self.server], "--recursive isn't supported")]:
             before = sorted(os.listdir(self.folder))
             status, _, messages = self.run_git(None, "bagjulen", "clone", "-q", *words)

@@ -246,13 +246,13 @@ def _git(address: Address, _: str, __: Last) -> Connection:
     """The connection with a daemon of Git."""
     if {"\n", "\0"} & set(address.authority + address.path):
         raise Trouble(BAD_INPUT, "newline is forbidden in git:// hosts and repo paths")
-    port = address.port or GIT_PORT
+    port, host = address.port or GIT_PORT, address.host.rpartition("@")[2]
     try:
         made = socket.create_connection((address.host, int(port)))
     except socket.gaierror as error:
-        raise Trouble(GIT_REFUSED, f"unable to look up {address.host} (port {port}) ({error.strerror})") from None
+        raise Trouble(GIT_REFUSED, f"unable to look up {host} (port {port}) ({error.strerror})") from None
     except OSError as error:
-        raise Trouble(GIT_REFUSED, f"unable to connect to {address.host}: {error.strerror or error}") from None
+        raise Trouble(GIT_REFUSED, f"unable to connect to {host}: {error.strerror or error}") from None
     reader, writer = made.makefile("rb"), made.makefile("wb")
     made.close()
     connection = Connection(reader, writer)

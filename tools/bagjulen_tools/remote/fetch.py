@@ -155,9 +155,7 @@ def conversed(scene: Scene, server: Server, engine: Engine, plan: FetchPlan, upd
     """
     asks_depth = any(option.split()[0] in ("depth", "deepen", "since", "not") for option in scene.options)
     while True:
-        report = converse(scene, server, engine, plan.check_listed)
-        if server.refusal is not None:
-            raise Trouble(GIT_REFUSED, server.refusal)
+        report = converse(scene, server, engine, lambda each: check_answered(each, server, plan))
         needed = [] if updates_shallow or asks_depth or report.refused else mappings_of_new_border(scene, report)
         if not needed:
             break
@@ -170,6 +168,13 @@ def conversed(scene: Scene, server: Server, engine: Engine, plan: FetchPlan, upd
     if report.refused.startswith("NoMapping"):
         return None
     raise Trouble(GIT_REFUSED, refusal_words(report.refused))
+
+
+def check_answered(scene: Scene, server: Server, plan: FetchPlan) -> None:
+    """Refuses what the server refused, or a source that it hasn't, as soon as it has answered."""
+    if server.refusal is not None:
+        raise Trouble(GIT_REFUSED, server.refusal)
+    plan.check_listed(scene)
 
 
 def listed(scene: Scene) -> dict[str, str | None]:

@@ -53,7 +53,7 @@ def asks_for_more(scene, want):
 
 def fetch(scene):
     """Writes the report of a scene, and answers the status."""
-    source, destination = scene.specs[0].removeprefix("+").split(":")
+    source, _, destination = scene.specs[0].removeprefix("+").partition(":")
     say(f'> "git-upload-pack {scene.address}\\x00\\x00version=2\\x00"')
     say_request("ls-refs", "symrefs", "peel")
     if len(scene.server) < 2:
