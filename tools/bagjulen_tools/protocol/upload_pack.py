@@ -2,7 +2,7 @@
 
 import os
 import tempfile
-from collections.abc import Callable
+from typing import Protocol
 
 from bagjulen_tools.formats.plainpack import Object, write_pack
 from bagjulen_tools.protocol.connection import Connection, is_bundle
@@ -14,6 +14,14 @@ PACK_WORDS = {"plain-pack": 1, "plain-pack-2": 2}
 FORMAT = "object-format="
 
 
+class Listener(Protocol):
+    """Who hears what a server says beside a reply, piece by piece, and then that the reply has ended."""
+
+    def __call__(self, text: bytes) -> None: ...
+
+    def end(self) -> None: ...
+
+
 class Server:
     """A server that is fetched from over version 2 of the protocol.
 
@@ -21,8 +29,7 @@ class Server:
     tells why it refused a request, or why its reply isn't whole, once that is so.
     """
 
-    def __init__(self, connection: Connection, told: Callable[[bytes], None] | None = None,
-                 asks_progress: bool = False) -> None:
+    def __init__(self, connection: Connection, told: Listener | None = None, asks_progress: bool = False) -> None:
         self._connection, self._told, self._asks_progress = connection, told, asks_progress
         self.refusal: str | None = None
         self._greeting = connection.greeting()
@@ -46,6 +53,8 @@ class Server:
     def _said(self, request: list[Line]) -> bytes:
         """What real Git answers."""
         came = self._connection.ask(request, self._hear)
+        if self._told is not None:
+            self._told.end()
         if came.problem is not None:
             self.refusal = self._connection.why_ended(came.problem)
         return came.data

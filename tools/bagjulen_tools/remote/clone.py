@@ -77,8 +77,7 @@ def address_of(word: str) -> str:
 
     As Git has it, `x` may stand for `x.git`, and a word without a colon can be nothing but a path.
     """
-    found = next((word + end for end in ("/.git", "", ".git/.git", ".git") if is_repository(word + end)), None)
-    if found is not None or is_bundle(word):
+    if word and any(is_repository(word + end) for end in ("/.git", "", ".git/.git", ".git")) or is_bundle(word):
         return os.path.join(working_directory(), word)
     if ":" not in word:
         raise Trouble(BAD_INPUT, f"repository '{word}' does not exist")

@@ -1,5 +1,6 @@
 """The lines of `git fetch` on standard error, and the lines of FETCH_HEAD."""
 
+import os
 import re
 import shutil
 import sys
@@ -99,14 +100,25 @@ def _told(told, abbreviated):
 
 
 class Progress:
-    """The server's progress, each of its lines behind `remote: `."""
+    """The server's progress, each of its lines behind `remote: `. As Git does, each wipes out what stood in its place."""
 
     def __init__(self) -> None:
         self._rest = b""
+        is_terminal = sys.stderr.isatty() and os.environ.get("TERM", "dumb") != "dumb"
+        self._wipe = "\033[K" if is_terminal else " " * 8
 
     def __call__(self, text: bytes) -> None:
         self._rest += text
         *whole, self._rest = re.split(rb"(?<=[\r\n])", self._rest)
         for line in whole:
-            sys.stderr.write(f"remote: {decoded_text(line)}")
+            self._tell(line[:-1], decoded_text(line[-1:]))
+
+    def end(self) -> None:
+        """Tells what came without the end of a line."""
+        if self._rest:
+            self._tell(self._rest, "\n")
+            self._rest = b""
+
+    def _tell(self, line: bytes, end: str) -> None:
+        sys.stderr.write(f"remote: {decoded_text(line)}{self._wipe if line else ''}{end}")
         sys.stderr.flush()
