@@ -11,13 +11,13 @@ from bagjulen_tools.trouble import BAD_INPUT, BAD_WORDS, ENGINE_FAILED, Trouble
 
 # The script that builds the program at its first use.
 SCRIPT = os.path.join(TOP, "bagjulen")
-# The program that tools run where no word names one: the one of the environment, or else that of the repository.
+# The program that tools run where no word names one: that of the environment, or else of the repository.
 PROGRAM = os.environ.get("BAGJULEN") or SCRIPT
 # The same for tools that run it many times or measure it: no script stands between.
 OWN = os.path.join(TOP, "crates", "bagjulen", "out", "bagjulen")
 BUILT = os.environ.get("BAGJULEN") or OWN
 MALFORMED = 4
-# What its statuses say, and those of the script that builds it; -9 is a kill, as where the machine's memory ran out.
+# What its statuses say, and those of the script that builds it. A signal has a negative one.
 ENDS = {
     2: "couldn't read what it was given",
     3: "couldn't write its report",
@@ -39,7 +39,7 @@ class Engine:
         self.program = program
 
     def start(self) -> None:
-        """Starts it once, before there is anything to do: where it has to be built first, that is told and done now."""
+        """Starts it once, before there is anything to do: where it has to be built, that is told and done now."""
         if self.program == SCRIPT and os.access(OWN, os.X_OK):
             return
         self.version()
@@ -57,7 +57,7 @@ class Engine:
         return self._report(["mirror", str(workers)], scene)
 
     def check(self, scene: bytes) -> tuple[int, bytes]:
-        """The status of a check of the scene of a server, 0, 1 or that of a scene that isn't read, and what is written."""
+        """The status of a check of a server's scene, 0, 1 or that of one that isn't read, and what is written."""
         return self._ended(["check"], scene)
 
     def _report(self, words: list[str], scene: bytes) -> Report:

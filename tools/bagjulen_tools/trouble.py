@@ -41,7 +41,7 @@ class ToldTrouble(Trouble):
 
 
 def one_line(text: str) -> str:
-    """A text of others on one line: its lines side by side, and as Git has it `?` for what controls a terminal."""
+    """A text of others on one line, its lines side by side, with Git's `?` for what controls a terminal."""
     joined = " ".join(line.strip() for line in text.splitlines() if line.strip())
     return "".join("?" if ord(letter) < 32 or ord(letter) == 127 else letter for letter in joined)
 

@@ -12,7 +12,7 @@ from http_backend import Handler, served
 from bagjulen_tools.protocol.connection import lines_from
 from bagjulen_tools.protocol.lines import encoded
 
-# What becomes of a reply: its number, 0 for the greeting, and its bytes. Where it is changed the connection ends behind it.
+# What becomes of a reply: its number, 0 for the greeting, and its bytes. Behind a changed one the connection ends.
 Change = Callable[[int, bytes], bytes]
 
 
@@ -38,6 +38,7 @@ def converse(stream: socket.socket, change: Change) -> None:
     more = {**os.environ, "GIT_PROTOCOL": "version=2"}
     with subprocess.Popen(["git", "upload-pack", path], stdin=subprocess.PIPE, stdout=subprocess.PIPE,
                           stderr=subprocess.DEVNULL, env=more) as real:
+        assert real.stdin is not None and real.stdout is not None
         number, said = 0, lines_from(real.stdout).data
         while stream.send(changed := change(number, said)) and changed == said:
             request = lines_from(reader).data
@@ -69,18 +70,21 @@ def over_socket(change: Change = unchanged) -> Iterator[str]:
 
 
 @contextlib.contextmanager
-def over_http(root: str, change: Change = unchanged, is_open: bool = True, is_new: bool = True) -> Iterator[str]:
+def over_http(root: str, change: Change = unchanged, is_open: bool = True,
+              is_new: bool = True) -> Iterator[str]:
     """The beginning of addresses `http://` of the repositories below a folder.
 
     Where it isn't open it asks for a password; where it isn't new it speaks no version 2.
     """
 
+    numbers: list[int] = []
+
     class Changed(Handler):
         speaks_version_2 = is_new
 
         def body(self, said: bytes) -> bytes:
-            number = self.server.number = getattr(self.server, "number", -1) + 1 if self.command == "POST" else 0
-            return change(number, said)
+            numbers.append(numbers[-1] + 1 if self.command == "POST" else 0)
+            return change(numbers[-1], said)
 
         def is_welcome(self) -> bool:
             return is_open or self.headers.get("Authorization") is not None

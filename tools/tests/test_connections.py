@@ -1,6 +1,7 @@
 """What comes over a connection: lines, errors of the server, and replies that are cut."""
 
 import io
+import os
 import subprocess
 import unittest
 
@@ -12,9 +13,14 @@ from bagjulen_tools.trouble import Trouble
 
 FORMAT = b"object-format=sha1\n"
 LISTING: list[Line] = [b"command=ls-refs\n", FORMAT, Mark.DELIMITER, b"peel\n", b"symrefs\n"]
-GREETING = encoded(b"version 2\n") + encoded(b"ls-refs\n") + encoded(b"fetch=shallow\n") + encoded(FORMAT) + encoded(Mark.FLUSH)
+ANNOUNCED: list[Line] = [b"version 2\n", b"ls-refs\n", b"fetch=shallow\n", FORMAT, Mark.FLUSH]
+GREETING = b"".join(map(encoded, ANNOUNCED))
 PACKFILE = encoded(b"packfile\n")
 PLACES = 200
+CUT_IN_PACK = "unexpected disconnect while reading sideband packet"
+HUNG_UP = "the remote end hung up unexpectedly"
+OTHER = "the server doesn't speak version 2 of the protocol"
+LENGTH = "protocol error: bad line length"
 
 
 def over(said: bytes) -> Connection:
@@ -35,42 +41,40 @@ class Lines(unittest.TestCase):
             raise MalformedLine(7)
 
     def test_digits_that_are_none_are_told_as_git_does(self) -> None:
-        for digits, text in ((b"Welc", "bad line length character: Welc"), (b"a\x1b[m", r"bad line length character: a?[m"),
-                             (b"0003", "bad line length 3"), (b"ffff", "bad line length 65535")):
-            self.assertEqual(lines_from(io.BytesIO(digits + 9 * b"x")).problem, f"protocol error: {text}")
+        for digits, text in ((b"Welc", " character: Welc"), (b"a\x1b[m", " character: a?[m"), (b"0003", " 3"),
+                             (b"ffff", " 65535")):
+            self.assertEqual(lines_from(io.BytesIO(digits + 9 * b"x")).problem, LENGTH + text)
 
 
 class Replies(unittest.TestCase):
     def assert_refused(self, reply: bytes, text: str) -> None:
         """A reply behind the greeting is refused so, and what came of it is handed on."""
         server = Server(over(GREETING + reply))
-        self.assertEqual((server.answer([b"command=fetch\n", b"plain-pack\n"]), server.refusal), (reply, text))
+        came = server.answer([b"command=fetch\n", b"plain-pack\n"])
+        self.assertEqual((came, server.refusal), (reply, text))
 
     def test_errors_of_the_server(self) -> None:
-        for error, text in ((b"not our ref", "not our ref"), (b"a\n\nb\n", "a b"), (b"\x1b[2J\x07bell", "?[2J?bell")):
+        for error, text in ((b"not our ref", "not our ref"), (b"a\n\nb\n", "a b"), (b"\x1b[2J\x07", "?[2J?")):
             self.assert_refused(encoded(b"ERR " + error), f"remote error: {text}")
             bands = PACKFILE + encoded(b"\2half\n") + encoded(b"\3" + error)
             for end in (b"", b"0000", b"00"):
                 self.assert_refused(bands + end, f"remote error: {text}")
 
     def test_what_begins_as_an_error_within_a_pack_is_none(self) -> None:
-        self.assert_refused(PACKFILE + encoded(b"\1ERR x"), "unexpected disconnect while reading sideband packet")
+        self.assert_refused(PACKFILE + encoded(b"\1ERR x"), CUT_IN_PACK)
 
     def test_a_cut_before_and_within_the_pack(self) -> None:
-        self.assert_refused(b"", "the remote end hung up unexpectedly")
-        self.assert_refused(encoded(b"shallow-info\n") + b"003", "the remote end hung up unexpectedly")
-        self.assert_refused(PACKFILE, "unexpected disconnect while reading sideband packet")
-        self.assert_refused(PACKFILE + encoded(b"\1" + 96 * b"0")[:-40], "unexpected disconnect while reading sideband packet")
+        self.assert_refused(b"", HUNG_UP)
+        self.assert_refused(encoded(b"shallow-info\n") + b"003", HUNG_UP)
+        self.assert_refused(PACKFILE, CUT_IN_PACK)
+        self.assert_refused(PACKFILE + encoded(b"\1" + 96 * b"0")[:-40], CUT_IN_PACK)
 
     def test_greetings(self) -> None:
-        for said, text in ((b"", "Could not read from remote repository."), (b"00", "the remote end hung up unexpectedly"),
-                           (GREETING[:-4], "the remote end hung up unexpectedly"),
+        for said, text in ((b"", "Could not read from remote repository."), (b"00", HUNG_UP), (GREETING[:-4], HUNG_UP),
                            (encoded(b"ERR access denied"), "remote error: access denied"),
-                           (encoded(b"version 1\n"), "the server doesn't speak version 2 of the protocol"),
-                           (encoded(b"1" * 40 + b" HEAD\0multi_ack\n") + b"0000",
-                            "the server doesn't speak version 2 of the protocol"),
-                           (b"0000", "the server doesn't speak version 2 of the protocol"),
-                           (b"HTTP/1.1 400", "protocol error: bad line length character: HTTP"),
+                           (encoded(b"version 1\n"), OTHER), (b"0000", OTHER),
+                           (encoded(b"1" * 40 + b" HEAD\0multi_ack\n") + b"0000", OTHER),
+                           (b"HTTP/1.1 400", f"{LENGTH} character: HTTP"),
                            (encoded(b"hello") + b"0000", "protocol error: expected sha/ref, got 'hello'")):
             with self.subTest(said), self.assertRaises(Trouble) as caught:
                 Server(over(said))
@@ -80,7 +84,8 @@ class Replies(unittest.TestCase):
 class Cut(WithRepositories):
     def test_a_conversation_that_is_cut_anywhere(self) -> None:
         """It is refused in words at each of many places, the last bytes of all three replies among them."""
-        fetch: list[Line] = [b"command=fetch\n", FORMAT, Mark.DELIMITER, f"want {self.tip}\n".encode(), b"done\n"]
+        want = f"want {self.tip}\n".encode()
+        fetch: list[Line] = [b"command=fetch\n", FORMAT, Mark.DELIMITER, want, b"done\n"]
         real = local(self.server)
         self.addCleanup(real.close)
         said = [real.greeting(), *(real.ask(each, lambda line: None).data for each in (LISTING, fetch))]
@@ -96,7 +101,7 @@ class Cut(WithRepositories):
 
     def test_what_the_process_behind_says(self) -> None:
         """Of a path that is no repository, as Git's first line."""
-        real = subprocess.run(["git", "ls-remote", self.folder], capture_output=True, env={"LC_ALL": "C", "PATH": "/usr/bin:/bin"})
+        real = subprocess.run(["git", "ls-remote", self.folder], capture_output=True, env={**os.environ, "LC_ALL": "C"})
         with self.assertRaises(Trouble) as caught:
             Server(local(self.folder))
         self.assertEqual(str(caught.exception), real.stderr.decode().splitlines()[0])

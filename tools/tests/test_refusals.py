@@ -1,4 +1,4 @@
-"""What `git bagjulen fetch` says where nothing can be fetched, beside what Git says. A double stands for the engine."""
+"""What `git bagjulen fetch` says where nothing can be fetched, beside Git. A double stands for the engine."""
 
 import os
 
@@ -11,8 +11,8 @@ HUNG_UP = "the remote end hung up unexpectedly"
 
 class Sources(WithTransports):
     def test_a_source_that_is_not_there(self) -> None:
-        for words in (["nosuch"], ["nosuch:refs/heads/x"], ["+deadbeef"], ["tag", "nosuch"], ["main", "nosuch"],
-                      ["refs/heads/*:refs/x/*", "a", "b"], ["refs/heads/mai"], ["heads/main", "HEAD", "no"]):
+        for words in (["nosuch"], ["nosuch:refs/heads/x"], ["+deadbeef"], ["tag", "nosuch"], 
+                      ["main", "nosuch"], ["refs/heads/*:refs/x/*", "a", "b"], ["refs/heads/mai"], ["heads/main", "HEAD", "no"]):
             with self.subTest(words):
                 self.assert_refused(self.server, *words)
 
@@ -36,8 +36,9 @@ class Said(WithTransports):
         with self.transports():
             for address in self.addresses:
                 with self.subTest(address):
-                    self.assert_refused(address, SPEC, of_git=(address, f"{ABSENT}:refs/heads/copy"), GIT_SSH_COMMAND=script,
-                                        BEHAVIOUR="wants nothing", has_front=address.startswith("host:"))
+                    of_git = address, f"{ABSENT}:refs/heads/copy"
+                    self.assert_refused(address, SPEC, of_git=of_git, has_front=address.startswith("host:"),
+                                        GIT_SSH_COMMAND=script, BEHAVIOUR="wants nothing")
 
     def test_an_error_in_place_of_a_reply(self) -> None:
         name = os.path.basename(self.server)
@@ -52,13 +53,14 @@ class Said(WithTransports):
         said = replaced(2, b"packfile\n", b"\2half\n", b"\3disk full\nrefused x\nok\n")
         with over_socket(said) as front:
             ended = self.run_git("bagjulen", "fetch", f"{front}{self.server}", SPEC)
-            self.assertEqual(ended, (128, "", "remote: half        \nfatal: remote error: disk full refused x ok\n"))
+            told = f"remote: half{' ' * 8}\nfatal: remote error: disk full refused x ok\n"
+            self.assertEqual(ended, (128, "", told))
             self.assertEqual(self.run_git("fetch", f"{front}{self.server}", SPEC)[0], 128)
 
     def test_replies_that_are_cut(self) -> None:
-        for number, count in ((0, 0), (0, 7), (1, 60), (2, 40)):
+        for number, count, told in ((0, 0, "Could not read from remote repository."), (0, 7, HUNG_UP), (1, 60, HUNG_UP),
+                                    (2, 40, "unexpected disconnect while reading sideband packet")):
             with self.subTest((number, count)):
-                told = ("Could not read from remote repository." if number + count == 0 else HUNG_UP if number < 2 else "unexpected disconnect while reading sideband packet")
                 with over_socket(cut(number, count)) as front:
                     self.assert_refused(f"{front}{self.server}", SPEC, told=told)
 
@@ -87,10 +89,12 @@ class Said(WithTransports):
             self.assertEqual(ended, (128, "", f"fatal: {other}\n"))
 
     def test_what_is_not_reached(self) -> None:
-        for address in (f"{self.server}/nowhere", f"file://{self.server}/nowhere", "host:/x", "http://127.0.0.1:1/x"):
+        for address in (f"{self.server}/no", f"file://{self.server}/no", "host:/x", "http://127.0.0.1:1/x"):
             with self.subTest(address):
-                self.assert_refused(address, SPEC, GIT_SSH_COMMAND="echo no key >&2; false", has_front=address == "host:/x")
-        self.assert_refused("git://127.0.0.1:1/x", SPEC, told="unable to connect to 127.0.0.1: Connection refused")
+                self.assert_refused(address, SPEC, has_front=address == "host:/x",
+                                    GIT_SSH_COMMAND="echo no key >&2; false")
+        told = "unable to connect to 127.0.0.1: Connection refused"
+        self.assert_refused("git://127.0.0.1:1/x", SPEC, told=told)
         self.assert_refused("host:/x", SPEC, GIT_SSH_COMMAND="echo Welcome; :")
         with over_http(self.folder) as front:
             self.assert_refused(f"{front}/nowhere", SPEC)

@@ -14,11 +14,13 @@ from bagjulen_tools.trouble import Trouble
 
 # Entries of the configuration, and variables of the environment.
 POLICIES: tuple[tuple[list[str], dict[str, str]], ...] = (
-    ([], {}), ([], {"GIT_ALLOW_PROTOCOL": "https"}), ([], {"GIT_ALLOW_PROTOCOL": ""}), ([], {"GIT_ALLOW_PROTOCOL": "x:file:git"}),
+    ([], {}), ([], {"GIT_ALLOW_PROTOCOL": "https"}), ([], {"GIT_ALLOW_PROTOCOL": ""}),
+    ([], {"GIT_ALLOW_PROTOCOL": "x:file:git"}),
     (["protocol.file.allow=never"], {}), (["protocol.file.allow=NEVER", "protocol.file.allow=Always"], {}),
     (["protocol.file.allow=never"], {"GIT_ALLOW_PROTOCOL": "file"}), (["protocol.allow=never"], {}),
-    (["protocol.allow=never", "protocol.file.allow=user"], {}), (["protocol.allow=maybe"], {}), (["protocol.git.allow=maybe"], {}),
-    ([], {"GIT_PROTOCOL_FROM_USER": "0"}), ([], {"GIT_PROTOCOL_FROM_USER": "off"}), ([], {"GIT_PROTOCOL_FROM_USER": "maybe"}),
+    (["protocol.allow=never", "protocol.file.allow=user"], {}), (["protocol.allow=maybe"], {}),
+    (["protocol.git.allow=maybe"], {}), ([], {"GIT_PROTOCOL_FROM_USER": "0"}), ([], {"GIT_PROTOCOL_FROM_USER": "off"}),
+    ([], {"GIT_PROTOCOL_FROM_USER": "maybe"}),
     (["protocol.git.allow=user"], {"GIT_PROTOCOL_FROM_USER": "no"}), (["protocol.File.allow=never"], {}),
 )
 
@@ -44,11 +46,13 @@ class Allowed(unittest.TestCase):
         return None
 
     def test_what_git_allows(self) -> None:
-        for transport, address in (("file", "/nowhere"), ("git", "git://127.0.0.1:1/x"), ("ext", "ext::false")):
+        ways = (("file", "/nowhere"), ("git", "git://127.0.0.1:1/x"), ("ext", "ext::false"))
+        for transport, address in ways:
             for entries, more in POLICIES:
                 with self.subTest((transport, entries, more)):
                     if transport != "ext" or not any("file" in listed for listed in more.values()):
-                        self.assertEqual(self.of_ours(transport, entries, more), self.of_git(address, entries, more))
+                        ours = self.of_ours(transport, entries, more)
+                        self.assertEqual(ours, self.of_git(address, entries, more))
 
     def test_a_policy_without_a_value(self) -> None:
         with self.assertRaisesRegex(Trouble, "missing value for 'protocol.file.allow'"):
@@ -59,13 +63,14 @@ class Reached(WithTransports):
     def clones(self, address: str, *options: str, folder: str | None = None, **more: str) -> list[str]:
         """The configurations of two clones, by Git and by the command."""
         found = []
-        for name, front in (("theirs", []), ("ours", ["bagjulen"])):
+        for name, front in (("theirs", ()), ("ours", ("bagjulen",))):
             words = ["clone", "-q", "--single-branch", "--no-tags", address, self.path(name)]
             status, _, messages = self.run_git(*options, *front, *words, folder=folder or self.folder, **more)
             self.assertEqual(status, 0, messages)
             with open(self.path(f"{name}/.git/config"), encoding="utf-8") as file:
                 found.append(file.read())
-        self.assertEqual(*(self.run_git("rev-parse", "HEAD", folder=self.path(name))[1] for name in ("theirs", "ours")))
+        ids = [self.run_git("rev-parse", "HEAD", folder=self.path(name))[1] for name in ("theirs", "ours")]
+        self.assertEqual(ids[0], ids[1])
         return found
 
     def test_over_each_transport(self) -> None:
@@ -77,9 +82,10 @@ class Reached(WithTransports):
                 self.assertEqual(ended[0], 0, ended)
 
     def test_the_transport_is_asked_for_before_it_is_used(self) -> None:
-        for options, more in (((), {"GIT_ALLOW_PROTOCOL": "https"}), (("-c", "protocol.file.allow=never"), {})):
-            self.assert_refused(self.server, SPEC, options=options, **more)
-        status, _, messages = self.run_git("-c", "protocol.file.allow=never", "bagjulen", "clone", "-q", self.server, "copy")
+        never = ("-c", "protocol.file.allow=never")
+        self.assert_refused(self.server, SPEC, options=never)
+        self.assert_refused(self.server, SPEC, GIT_ALLOW_PROTOCOL="https")
+        status, _, messages = self.run_git(*never, "bagjulen", "clone", "-q", self.server, "copy")
         self.assertEqual((status, messages), (128, "fatal: transport 'file' not allowed\n"))
         self.assertFalse(os.path.exists(os.path.join(self.client, "copy")))
 
@@ -96,7 +102,8 @@ class Reached(WithTransports):
 
     def test_a_name_without_its_end(self) -> None:
         os.mkdir(self.path("below"))
-        for word, folder in (("server", self.folder), ("../server", self.path("below")), ("../below/../server.git", self.path("below"))):
+        below = self.path("below")
+        for word, folder in (("server", self.folder), ("../server", below), ("../below/../server.git", below)):
             with self.subTest(word):
                 theirs, ours = self.clones(word, folder=folder, PWD=folder)
                 self.assertEqual(ours, theirs)
@@ -110,9 +117,10 @@ class Reached(WithTransports):
 
     def test_the_command_for_ssh(self) -> None:
         script, option = self.by_script('exec sh -c "$last"\n'), "core.sshCommand={}"
-        for options, more in ((("-c", option.format(script)), {"GIT_SSH": "false"}),
-                              (("-c", option.format("false")), {"GIT_SSH_COMMAND": script}), ((), {"GIT_SSH": script})):
-            with self.subTest((options, more)):
-                ended = self.run_git(*options, "bagjulen", "fetch", f"host:{self.server}", f"+{SPEC}", **more)
+        for entry, variable, value in ((script, "GIT_SSH", "false"), ("false", "GIT_SSH_COMMAND", script),
+                                       ("", "GIT_SSH", script)):
+            with self.subTest(variable):
+                words = ["-c", option.format(entry), "bagjulen", "fetch", f"host:{self.server}", f"+{SPEC}"]
+                ended = self.run_git(*words, **{variable: value})
                 self.assertEqual(ended[0], 0, ended)
         self.assert_refused(f"host:{self.server}", SPEC, options=("-c", option.format("false")))

@@ -33,11 +33,11 @@ class WithTransports(WithRepositories):
         os.chmod(path, 0o755)
         return path
 
-    def assert_refused(self, *words: str, told: str | None = None, of_git: tuple[str, ...] | None = None, has_front: bool = False,
-                       options: tuple[str, ...] = (), **more: str) -> None:
+    def assert_refused(self, *words: str, told: str | None = None, of_git: tuple[str, ...] | None = None,
+                       has_front: bool = False, options: tuple[str, ...] = (), **more: str) -> None:
         """Both refuse, with status 128, and nothing is written. The one line is `told`, or else one of Git's.
 
-        `of_git` are the words for Git where they are others; with `has_front` lines of programs below stand before it.
+        `of_git` are the words for Git where they are others; with `has_front` other lines stand before it.
         """
         before = self.state()
         status, out, messages = self.run_git(*options, "bagjulen", "fetch", *words, **more)
@@ -53,6 +53,7 @@ class WithTransports(WithRepositories):
         """Addresses of the server over each transport, in `addresses`."""
         stack = contextlib.ExitStack()
         name = os.path.basename(self.server)
-        self.addresses = [self.server, f"file://{self.server}", f"{stack.enter_context(over_socket())}{self.server}",
-                          f"{stack.enter_context(over_http(self.folder))}/{name}", f"host:{self.server}"]
+        git, http = (stack.enter_context(each) for each in (over_socket(), over_http(self.folder)))
+        self.addresses = [self.server, f"file://{self.server}", f"{git}{self.server}", f"{http}/{name}",
+                          f"host:{self.server}"]
         return stack

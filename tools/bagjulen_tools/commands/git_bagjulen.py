@@ -6,7 +6,7 @@
 
 The words are those of `git fetch` and `git clone`; what isn't supported is refused by its name. Addresses are paths,
 file://, http://, https://, ssh://, git://, and host:path. docs/REAL-GIT.md says what of such a run is proved.
-`git bagjulen fetch -h` and `git bagjulen clone -h` tell the words; `--help` Git itself takes for a manual page.
+`git bagjulen fetch -h` and `clone -h` tell the words; `--help` Git itself takes, for a manual page.
 
 Statuses: 0 where it was done, 1 where some reference was rejected, 128 where it wasn't done, with a line `fatal: ..`.
 """
@@ -154,7 +154,8 @@ def main(arguments: list[str]) -> int:
     command = WORDS_OF_ITS_OWN.get(arguments[0], arguments[0])
     try:
         if command not in COMMANDS:
-            raise Trouble(BAD_WORDS, f"'{command}' is no command of git bagjulen, which are {', '.join(COMMANDS)}")
+            known = ", ".join(COMMANDS)
+            raise Trouble(BAD_WORDS, f"'{command}' is no command of git bagjulen, which are {known}")
         return COMMANDS[command](arguments[1:])
     except ToldTrouble:
         return FATAL

@@ -58,7 +58,7 @@ class Report:
 
 
 def read_report(data: bytes) -> Report:
-    """The report that the bytes are. One of a refusal is read to that: the text which it keeps may be of several lines."""
+    """The report that the bytes are. A refused one is read to its first `refused` line, which others follow."""
     report, ended = Report(), False
     for line in decoded_text(data).removesuffix("\n").split("\n"):
         word, _, value = line.partition(" ")

@@ -17,9 +17,10 @@ PORT = 65535
 
 @dataclass(frozen=True)
 class Address:
-    """An address: the transport as the configuration names it, the host with the user before it, the port, and the path.
+    """An address: its transport, its host with the user before it, its port and its path.
 
-    `text` is the address as it was given, and `authority` the host and the port as they are written in it. Of a transport that a helper of Git's reaches, that is all there is.
+    The transport is named as the configuration names it. `text` is the address as it was given, and `authority` the
+    host and the port as they are written in it. Of a transport by a helper of Git's there is the text alone.
     """
 
     text: str
@@ -31,7 +32,10 @@ class Address:
 
 
 def parsed(text: str) -> Address:
-    """An address taken apart: a path, `<host>:<path>`, or `<scheme>://<rest>`, whose rest is decoded, `#` and `?` are its own."""
+    """An address taken apart: a path, `<host>:<path>`, or `<scheme>://<rest>`.
+
+    The rest is decoded; `#` and `?` stand in it as any other letter. Without a path it is a trouble.
+    """
     helper, scheme = HELPER.match(text), SCHEME.match(text)
     if helper is not None:
         return Address(text, helper[1])
@@ -79,8 +83,11 @@ def _host_and_port(text: str) -> tuple[str, str | None]:
 
 def _decoded(text: str) -> str:
     """A text with the bytes that `%` and two digits stand for, but for the byte 0."""
-    return decoded_text(ESCAPED.sub(lambda code: bytes.fromhex(code[1].decode()) if code[1] != b"00" else code[0],
-                                    encoded_text(text)))
+    return decoded_text(ESCAPED.sub(_byte_of, encoded_text(text)))
+
+
+def _byte_of(escaped: re.Match[bytes]) -> bytes:
+    return escaped[0] if escaped[1] == b"00" else bytes.fromhex(escaped[1].decode())
 
 
 def _no_path() -> Trouble:

@@ -12,7 +12,10 @@ TRUE, FALSE = ("true", "yes", "on", "1"), ("false", "no", "off", "0", "")
 
 
 def check_allowed(transport: str, entries: Entries) -> None:
-    """Refuses a transport that may not be used, by GIT_ALLOW_PROTOCOL or else `protocol.<name>.allow` and `protocol.allow`."""
+    """Refuses a transport that may not be used.
+
+    GIT_ALLOW_PROTOCOL says so, or else `protocol.<name>.allow`, or else `protocol.allow`.
+    """
     listed = os.environ.get("GIT_ALLOW_PROTOCOL")
     allowed = transport in listed.split(":") if listed is not None else _by_entries(transport, dict(entries))
     if not allowed:

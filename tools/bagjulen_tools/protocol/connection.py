@@ -69,7 +69,7 @@ class Connection:
         return Trouble(GIT_REFUSED, self.why_ended(problem))
 
     def ask(self, request: list[Line], heard: Callable[[bytes], None]) -> Received:
-        """What answers a request, which is its lines without the flush. Each line is handed on as it comes."""
+        """What answers a request, which is lines without their flush. Each line is handed on as it comes."""
         self.write(b"".join(map(encoded, [*request, Mark.FLUSH])))
         came = lines_from(self._reader, heard)
         if self._is_helper and came.problem is None and self._reader.read(4) != RESPONSE_END:
@@ -89,7 +89,7 @@ class Connection:
         return self._reader.readline()
 
     def why_ended(self, problem: str) -> str:
-        """Why a reply isn't whole: what the process behind it says where that ended, or else the problem of what came."""
+        """Why a reply isn't whole: what the process behind it said at its end, or else this problem."""
         return (self._why() if problem in (NOTHING_CAME, HUNG_UP, CUT_IN_PACK) else None) or problem
 
     def _why(self) -> str | None:
@@ -124,7 +124,7 @@ def _is_of_other_version(data: bytes) -> bool:
 
 
 def lines_from(reader: IO[bytes], heard: Callable[[bytes], None] = lambda line: None) -> Received:
-    """What comes up to a flush, or up to an error of the server or the end of what comes. Each line is handed on."""
+    """What comes up to a flush, an error of the server, or the end. Each line is handed on as it comes."""
     said: list[bytes] = []
     is_in_pack, error = False, None
     while True:
@@ -232,7 +232,7 @@ def _http(address: Address, name: str, _: Last) -> Connection:
 
 
 def _ssh(address: Address, _: str, last: Last) -> Connection:
-    """The connection by the command of GIT_SSH_COMMAND, of `core.sshCommand` or of GIT_SSH, or else by `ssh`."""
+    """The connection by what GIT_SSH_COMMAND, `core.sshCommand` or GIT_SSH says, or else by `ssh`."""
     command = os.environ.get("GIT_SSH_COMMAND") or last.get("core.sshcommand")
     quoted = "'" + address.path.replace("'", "'\\''").replace("!", "'\\!'") + "'"
     port = ["-p", address.port] if address.port else []
@@ -256,7 +256,8 @@ def _git(address: Address, _: str, __: Last) -> Connection:
     reader, writer = made.makefile("rb"), made.makefile("wb")
     made.close()
     connection = Connection(reader, writer)
-    connection.write(encoded(encoded_text(f"git-upload-pack {address.path}\0host={address.authority}\0\0version=2\0")))
+    first = f"git-upload-pack {address.path}\0host={address.authority}\0\0version=2\0"
+    connection.write(encoded(encoded_text(first)))
     return connection
 
 

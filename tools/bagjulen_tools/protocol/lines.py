@@ -79,7 +79,7 @@ def line_at(data: bytes, place: int) -> tuple[Line, int]:
 
 
 def length_of(digits: bytes) -> int:
-    """The length that the digits of a line tell, or 0 where they are none: hexadecimal ones in either case."""
+    """The length that a line's digits tell, hexadecimal ones in either case, or 0 where they are none."""
     return int(digits, 16) if LENGTH.fullmatch(digits) else 0
 
 

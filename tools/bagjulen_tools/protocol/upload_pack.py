@@ -25,23 +25,25 @@ class Listener(Protocol):
 class Server:
     """A server that is fetched from over version 2 of the protocol.
 
-    `told` is handed what it says beside its replies; it is asked for its progress where `asks_progress` says so. `refusal`
-    tells why it refused a request, or why its reply isn't whole, once that is so.
+    `told` hears what it says beside its replies; it is asked for its progress where `asks_progress` says so.
+    `refusal` tells why it refused a request, or why its reply isn't whole, once that is so.
     """
 
-    def __init__(self, connection: Connection, told: Listener | None = None, asks_progress: bool = False) -> None:
+    def __init__(self, connection: Connection, told: Listener | None = None,
+                 asks_progress: bool = False) -> None:
         self._connection, self._told, self._asks_progress = connection, told, asks_progress
         self.refusal: str | None = None
         self._greeting = connection.greeting()
         lines = [line for _, line in placed_lines(self._greeting) if isinstance(line, bytes)]
-        self.hash_name = next((text_of(line)[len(FORMAT):] for line in lines if text_of(line).startswith(FORMAT)), "sha1")
+        texts = [text_of(line) for line in lines]
+        self.hash_name = next((text[len(FORMAT):] for text in texts if text.startswith(FORMAT)), "sha1")
 
     def greeting(self) -> bytes:
         """The real greeting, with plain packs among the features of `fetch`."""
         return b"".join(encoded(_with_plain_packs(line)) for _, line in placed_lines(self._greeting))
 
     def answer(self, request: list[Line]) -> bytes:
-        """The bytes that answer a request, which is its lines without the flush. Of a refused one, what came of them."""
+        """What answers a request, which is lines without their flush. Of a refused one, what came."""
         words = [text_of(line) for line in request if not isinstance(line, Mark)]
         version = next((PACK_WORDS[word] for word in words if word in PACK_WORDS), None)
         if version is None:
@@ -92,7 +94,7 @@ def _with_plain_packs(line: Line) -> Line:
 
 
 def _split_at_pack(said: bytes) -> tuple[bytes, list[bytes] | None]:
-    """The bytes up to the line `packfile` with it, and the band lines after it, or None where no pack comes."""
+    """The bytes up to the line `packfile` with it, and the band lines behind it, None where no pack comes."""
     front: list[bytes] = []
     bands: list[bytes] | None = None
     for _, line in placed_lines(said):

@@ -18,7 +18,7 @@ from bagjulen_tools.trouble import BAD_INPUT, DONE, GIT_REFUSED, Trouble, read_f
 LISTING = [b"command=ls-refs\n", Mark.DELIMITER, b"peel\n", b"symrefs\n", b"unborn\n", b"ref-prefix HEAD\n",
            b"ref-prefix refs/heads/\n", b"ref-prefix refs/tags/\n"]
 BRANCHES, TAGS, TARGET = "refs/heads/", "refs/tags/", "symref-target:"
-# The configuration that is read before there is a repository: none of another one that the command may stand in.
+# Of the configuration that is read before there is a repository, none is that of one that stands around.
 NOWHERE = {"GIT_DIR": os.devnull}
 
 
@@ -60,7 +60,8 @@ def clone(asked: argparse.Namespace, options: FetchOptions, engine: Engine) -> i
     if options.verbosity >= 0:
         print(f"Cloning into {'bare repository ' * is_bare}'{folder}'...", file=sys.stderr)
     source = decoded_text(git(["ls-remote", "--get-url", "--", address], more=NOWHERE)).removesuffix("\n")
-    connection = connect(source, asked.origin or "origin", entries_in(git(["config", "--list", "-z"], more=NOWHERE)))
+    entries = entries_in(git(["config", "--list", "-z"], more=NOWHERE))
+    connection = connect(source, asked.origin or "origin", entries)
     server = Server(connection, Progress(), options.has_progress)
     was_there = os.path.isdir(folder)
     try:
@@ -73,11 +74,12 @@ def clone(asked: argparse.Namespace, options: FetchOptions, engine: Engine) -> i
 
 
 def address_of(word: str) -> str:
-    """The address that a word stands for: of a repository on this machine the whole path, which isn't made shorter.
+    """The address that a word stands for: of a repository on this machine its path from the root, as it is.
 
     As Git has it, `x` may stand for `x.git`, and a word without a colon can be nothing but a path.
     """
-    if word and any(is_repository(word + end) for end in ("/.git", "", ".git/.git", ".git")) or is_bundle(word):
+    ends = ("/.git", "", ".git/.git", ".git") if word else ()
+    if any(is_repository(word + end) for end in ends) or is_bundle(word):
         return os.path.join(working_directory(), word)
     if ":" not in word:
         raise Trouble(BAD_INPUT, f"repository '{word}' does not exist")
@@ -112,7 +114,7 @@ def humanish(address, is_bare):
     path = address.rstrip("/").removesuffix("/.git").rstrip("/")
     name = path.rpartition("/")[2].rpartition(":")[2].removesuffix(".git").removesuffix(".bundle")
     if not name:
-        raise Trouble(BAD_INPUT, "No directory name could be guessed. Please specify a directory on the command line")
+        raise Trouble(BAD_INPUT, "No directory name could be guessed.")
     return f"{name}.git" if is_bare else name
 
 
@@ -129,7 +131,8 @@ def _clone_from(server, asked, options, engine, address, folder):
         print("warning: You appear to have cloned an empty repository.", file=sys.stderr)
     else:
         specs = specs or ["HEAD"]
-        plan = FetchPlan(address, name, specs, tags=tags, options=depth_options(repository, asked), optional=specs)
+        depth = depth_options(repository, asked)
+        plan = FetchPlan(address, name, specs, tags=tags, options=depth, optional=specs)
         options.verbosity = verbosity if verbosity > 0 else -1
         fetch_from(server, repository, plan, options, engine, f"clone: from {anonymous(address)}")
     _point_head(repository, remote, chosen, asked, name, address)

@@ -10,12 +10,13 @@ from bagjulen_tools.protocol.upload_pack import Server
 DONE = b"done\n"
 
 
-def converse(scene: Scene, server: Server, engine: Engine, answered_with: Callable[[Scene], None] | None = None) -> Report:
+def converse(scene: Scene, server: Server, engine: Engine,
+             answered_with: Callable[[Scene], None] = lambda scene: None) -> Report:
     """Adds to a scene what the server says to each request, and answers the report of the whole.
 
-    The engine is run on the scene so far, and its report tells the requests that it sent. The first one that has no
-    answer yet gets its answer from the server, and so on until each has one. `answered_with` looks at the scene after
-    each answer, and may refuse it.
+    The engine is run on the scene so far, and its report tells the requests that it sent. The first one that has
+    no answer yet gets its answer from the server, and so on until each has one. `answered_with` looks at the scene
+    after each answer, and may refuse it.
     """
     scene.server = [server.greeting()]
     while True:
@@ -24,5 +25,4 @@ def converse(scene: Scene, server: Server, engine: Engine, answered_with: Callab
         if len(requests) <= answered or server.refusal is not None:
             return report
         scene.server.append(server.answer(requests[answered]))
-        if answered_with is not None:
-            answered_with(scene)
+        answered_with(scene)

@@ -57,7 +57,7 @@ class FetchPlan:
     optional: list[str] = field(default_factory=list)
 
     def check_listed(self, scene: Scene) -> None:
-        """Refuses the fetch, once the server has listed its references, where one is asked for by name that isn't there."""
+        """Refuses the fetch once the references are listed, where a source isn't among them."""
         if len(scene.server) == 2:
             specs = [spec for spec in self.specs if spec not in self.optional]
             check_sources(specs, listed(scene), scene.hash_name)
@@ -148,7 +148,8 @@ def fetch_from(server: Server, repository: Repository, plan: FetchPlan, options:
     return DIFFERENT if any(each.is_rejected() for each in told) else DONE
 
 
-def conversed(scene: Scene, server: Server, engine: Engine, plan: FetchPlan, updates_shallow: bool) -> Report | None:
+def conversed(scene: Scene, server: Server, engine: Engine, plan: FetchPlan,
+              updates_shallow: bool) -> Report | None:
     """The report of a fetch, or None where there is nothing to bring, or all of it is left out.
 
     Without `updates_shallow` and without a depth, references are left out that need a border of the server's own.

@@ -100,7 +100,7 @@ def _told(told, abbreviated):
 
 
 class Progress:
-    """The server's progress, each of its lines behind `remote: `. As Git does, each wipes out what stood in its place."""
+    """What the server says beside its replies, each line behind `remote: `, with what wipes out the one before."""
 
     def __init__(self) -> None:
         self._rest = b""
