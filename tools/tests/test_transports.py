@@ -115,6 +115,13 @@ class Reached(WithTransports):
             real = self.run_git("clone", word, "copy")
             self.assertEqual(self.run_git("bagjulen", "clone", word, "copy"), real)
 
+    def test_what_is_refused_by_its_name(self) -> None:
+        for address, more, told in (("host:/x", {"GIT_SSH_VARIANT": "plink"}, "the variant 'plink' of ssh"),
+                                    ("git://127.0.0.1:1/x", {"GIT_PROXY_COMMAND": "nc"}, "GIT_PROXY_COMMAND")):
+            ended = self.run_git("bagjulen", "fetch", address, SPEC, **more)
+            self.assertEqual(ended[0], 128)
+            self.assertRegex(ended[2], rf"\Afatal: [^\n]*{told}[^\n]* supported by git bagjulen\n\Z")
+
     def test_the_command_for_ssh(self) -> None:
         script, option = self.by_script('exec sh -c "$last"\n'), "core.sshCommand={}"
         for entry, variable, value in ((script, "GIT_SSH", "false"), ("false", "GIT_SSH_COMMAND", script),

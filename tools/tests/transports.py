@@ -17,7 +17,7 @@ class WithTransports(WithRepositories):
     def run_git(self, *words: str, folder: str | None = None, **more: str) -> tuple[int, str, str]:
         """The status of a command of Git's in the client, what it wrote, and its messages."""
         own = {"PATH": PATH, "BAGJULEN": ENGINE_DOUBLE, "LC_ALL": "C", "GIT_TERMINAL_PROMPT": "0", **more}
-        ended = subprocess.run(["git", *words], cwd=folder or self.client, capture_output=True, timeout=60,
+        ended = subprocess.run(["git", *words], cwd=folder or self.client, capture_output=True, timeout=120,
                                env={**os.environ, **ALONE, **own})
         return ended.returncode, ended.stdout.decode(), ended.stderr.decode()
 

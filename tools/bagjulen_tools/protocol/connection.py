@@ -233,6 +233,9 @@ def _http(address: Address, name: str, _: Last) -> Connection:
 
 def _ssh(address: Address, _: str, last: Last) -> Connection:
     """The connection by what GIT_SSH_COMMAND, `core.sshCommand` or GIT_SSH says, or else by `ssh`."""
+    variant = os.environ.get("GIT_SSH_VARIANT") or last.get("ssh.variant")
+    if variant not in (None, "auto", "ssh"):
+        raise Trouble(BAD_INPUT, f"the variant '{variant}' of ssh isn't supported by git bagjulen")
     command = os.environ.get("GIT_SSH_COMMAND") or last.get("core.sshcommand")
     quoted = "'" + address.path.replace("'", "'\\''").replace("!", "'\\!'") + "'"
     port = ["-p", address.port] if address.port else []
@@ -242,8 +245,10 @@ def _ssh(address: Address, _: str, last: Last) -> Connection:
     return _by_process([os.environ.get("GIT_SSH", "ssh"), *rest], is_heard=False)
 
 
-def _git(address: Address, _: str, __: Last) -> Connection:
+def _git(address: Address, _: str, last: Last) -> Connection:
     """The connection with a daemon of Git."""
+    if os.environ.get("GIT_PROXY_COMMAND") or last.get("core.gitproxy"):
+        raise Trouble(BAD_INPUT, "core.gitProxy and GIT_PROXY_COMMAND aren't supported by git bagjulen")
     if {"\n", "\0"} & set(address.authority + address.path):
         raise Trouble(BAD_INPUT, "newline is forbidden in git:// hosts and repo paths")
     port, host = address.port or GIT_PORT, address.host.rpartition("@")[2]
