@@ -235,6 +235,14 @@ class Fetched(WithServer):
             self.assertRegex(messages, rf"\A(warning: .*\n)?fatal: [^\n]*{re.escape(text)}[^\n]*\n\Z")
             self.assertEqual(self.state("ours"), before)
 
+    def test_a_source_that_matches_nothing(self) -> None:
+        """A name refuses the fetch, beside names that are there too, and a star brings nothing."""
+        self.clients()
+        self.move()
+        self.assertEqual(self.assert_alike("origin", "refs/nothing/*:refs/x/*"), 0)
+        for words in (["nosuch"], ["main", "topic:copied", "tag", "nosuch"], ["1" * 39]):
+            self.assertEqual(self.assert_alike("origin", *words), 128)
+
     def test_what_was_rejected_moves_nothing_else_away(self):
         self.clients()
         self.move()

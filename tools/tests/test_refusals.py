@@ -28,6 +28,12 @@ class Sources(WithTransports):
         self.assert_refused(self.server, "@:refs/heads/x")
 
 
+class Nowhere(WithTransports):
+    def test_where_no_repository_stands(self) -> None:
+        real = self.run_git("fetch", self.server, folder=self.folder)
+        self.assertEqual(self.run_git("bagjulen", "fetch", self.server, folder=self.folder), real)
+
+
 class Said(WithTransports):
     """What a server or what is between says."""
 

@@ -94,12 +94,18 @@ def options_of(asked):
     return FetchOptions(verbosity=asked.verbose - asked.quiet, has_progress=has_progress)
 
 
-def standing():
-    """The repository that stands here. As Git does, the command goes to the top of its work tree, from where paths lead."""
-    if "GIT_DIR" in os.environ:
-        return Repository(os.environ["GIT_DIR"])
-    os.chdir(Repository(".").path)
-    return Repository(".")
+def standing() -> Repository:
+    """The repository that stands here. As Git does, the command goes to the top of its work tree, from where
+    paths lead. Where there is none, Git's line says so.
+    """
+    try:
+        if "GIT_DIR" in os.environ:
+            return Repository(os.environ["GIT_DIR"])
+        os.chdir(Repository(".").path)
+        return Repository(".")
+    except Trouble as trouble:
+        told, _, line = str(trouble).partition(" is no repository: ")
+        raise Trouble(trouble.status, line or told) from None
 
 
 def run_fetch(given: list[str]) -> int:
