@@ -2,6 +2,7 @@
 
 import argparse
 import sys
+from typing import NoReturn
 
 DONE = 0
 DIFFERENT = 1
@@ -57,7 +58,7 @@ class ToolParser(argparse.ArgumentParser):
             allow_abbrev=False,
         )
 
-    def error(self, message):
+    def error(self, message: str) -> NoReturn:
         raise Trouble(BAD_WORDS, f"{message} (--help tells more)")
 
 

@@ -121,9 +121,9 @@ def run_fetch(given: list[str]) -> int:
     return fetch(repository, plan, options, Engine(PROGRAM), action)
 
 
-def refspecs(words):
+def refspecs(given: list[str]) -> list[str]:
     """Refspecs, in which `tag <name>` stands for a tag to its own place."""
-    words, found = iter(words), []
+    words, found = iter(given), []
     for word in words:
         name = next(words, None) if word == "tag" else None
         if word == "tag" and name is None:
@@ -138,12 +138,14 @@ def run_clone(given: list[str]) -> int:
 
 
 def run_help(_: list[str]) -> int:
+    """Tells what the command is for."""
     print(__doc__, end="")
     print(f"\nThe engine is {PROGRAM}; BAGJULEN names another one.")
     return 0
 
 
 def run_version(_: list[str]) -> int:
+    """Tells the version of the engine."""
     print(Engine(PROGRAM).version())
     return 0
 

@@ -100,7 +100,7 @@ def working_directory() -> str:
     return named if os.path.isabs(named) and os.path.exists(named) and os.path.samefile(named, real) else real
 
 
-def _clear(folder, was_there):
+def _clear(folder: str, was_there: bool) -> None:
     """Takes away what was made."""
     for name in os.listdir(folder) if was_there else []:
         path = os.path.join(folder, name)
@@ -109,7 +109,7 @@ def _clear(folder, was_there):
         shutil.rmtree(folder, ignore_errors=True)
 
 
-def humanish(address, is_bare):
+def humanish(address: str, is_bare: bool) -> str:
     """The name that Git gives to the clone of an address."""
     path = address.rstrip("/").removesuffix("/.git").rstrip("/")
     name = path.rpartition("/")[2].rpartition(":")[2].removesuffix(".git").removesuffix(".bundle")
@@ -118,7 +118,8 @@ def humanish(address, is_bare):
     return f"{name}.git" if is_bare else name
 
 
-def _clone_from(server, asked, options, engine, address, folder):
+def _clone_from(server: Server, asked: argparse.Namespace, options: FetchOptions, engine: Engine, address: str,
+                folder: str) -> int:
     remote = Remote(server)
     chosen = remote.chosen(asked.branch, asked.origin or "origin")
     words = ["--bare"] if asked.bare or asked.mirror else []
