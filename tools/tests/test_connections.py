@@ -6,10 +6,10 @@ import subprocess
 import unittest
 
 from common import WithRepositories
-from bagjulen_tools.protocol.connection import Connection, lines_from, local
+from bagjulen_tools.protocol.connection import RESPONSE_END, Connection, lines_from, local
 from bagjulen_tools.protocol.lines import Line, MalformedLine, Mark, encoded, line_at
 from bagjulen_tools.protocol.upload_pack import Server
-from bagjulen_tools.trouble import Trouble
+from bagjulen_tools.trouble import GIT_REFUSED, Trouble
 
 FORMAT = b"object-format=sha1\n"
 LISTING: list[Line] = [b"command=ls-refs\n", FORMAT, Mark.DELIMITER, b"peel\n", b"symrefs\n"]
@@ -23,9 +23,9 @@ OTHER = "the server doesn't speak version 2 of the protocol"
 LENGTH = "protocol error: bad line length"
 
 
-def over(said: bytes) -> Connection:
-    """A connection over which these bytes come, and no more."""
-    return Connection(io.BytesIO(said), io.BytesIO())
+def over(said: bytes, is_helper: bool = False) -> Connection:
+    """A connection over which these bytes come, and no more, as from Git's helper of HTTP or from others."""
+    return Connection(io.BytesIO(said), io.BytesIO(), is_helper=is_helper)
 
 
 class Lines(unittest.TestCase):
@@ -83,21 +83,30 @@ class Replies(unittest.TestCase):
 
 class Cut(WithRepositories):
     def test_a_conversation_that_is_cut_anywhere(self) -> None:
-        """It is refused in words at each of many places, the last bytes of all three replies among them."""
+        """It is refused in words at each of many places, the last bytes of all three replies among them.
+
+        Behind each reply but the greeting, Git's helper of HTTP has the end of a response.
+        """
         want = f"want {self.tip}\n".encode()
         fetch: list[Line] = [b"command=fetch\n", FORMAT, Mark.DELIMITER, want, b"done\n"]
         real = local(self.server)
         self.addCleanup(real.close)
-        said = [real.greeting(), *(real.ask(each, lambda line: None).data for each in (LISTING, fetch))]
-        whole = b"".join(said)
-        ends = {len(b"".join(said[:number])) - back for number in (1, 2, 3) for back in range(1, 6)}
-        for place in sorted({*range(0, len(whole), -(-len(whole) // PLACES)), *ends}):
-            with self.subTest(place), self.assertRaisesRegex(Trouble, r"\A[A-Z a-z]+\.?\Z"):
-                server = Server(over(whole[:place]))
-                for request in (LISTING, [*fetch[:3], b"plain-pack\n", *fetch[3:]]):
-                    server.answer(request)
-                    if server.refusal is not None:
-                        raise Trouble(1, server.refusal)
+        replies = [real.greeting(), *(real.ask(each, lambda line: None).data for each in (LISTING, fetch))]
+        for is_helper in (False, True):
+            said = [replies[0], *(reply + RESPONSE_END * is_helper for reply in replies[1:])]
+            whole = b"".join(said)
+            ends = {len(b"".join(said[:number])) - back for number in (1, 2, 3) for back in range(1, 9)}
+            for place in sorted({*range(0, len(whole), -(-len(whole) // PLACES)), *ends}):
+                with self.subTest((is_helper, place)), self.assertRaisesRegex(Trouble, r"\A[A-Z' a-z]+\.?\Z"):
+                    self.converse(over(whole[:place], is_helper), fetch)
+
+    def converse(self, connection: Connection, fetch: list[Line]) -> None:
+        """A listing and a fetch over a connection. What is refused is a trouble."""
+        server = Server(connection)
+        for request in (LISTING, [*fetch[:3], b"plain-pack\n", *fetch[3:]]):
+            server.answer(request)
+            if server.refusal is not None:
+                raise Trouble(GIT_REFUSED, server.refusal)
 
     def test_what_the_process_behind_says(self) -> None:
         """Of a path that is no repository, as Git's first line."""
