@@ -6,6 +6,7 @@ import subprocess
 import unittest
 
 from common import WithRepositories
+from bagjulen_tools.formats.bundle import Bundle, judged
 from bagjulen_tools.protocol.connection import RESPONSE_END, Connection, lines_from, local
 from bagjulen_tools.protocol.lines import Line, MalformedLine, Mark, encoded, line_at
 from bagjulen_tools.protocol.upload_pack import Server
@@ -35,6 +36,13 @@ class Lines(unittest.TestCase):
             with self.assertRaises(MalformedLine):
                 line_at(digits + 40 * b"x", 0)
             self.assertIsNotNone(lines_from(io.BytesIO(digits + 40 * b"x")).problem)
+
+    def test_bundles_with_other_digits(self) -> None:
+        text = Bundle("sha1", {"HEAD": "@refs/heads/main"}, [], []).to_bytes()
+        self.assertIsNotNone(judged(text)[0])
+        self.assertEqual(text[27:31], b"001e")
+        for digits in (b"0x1e", b"+01e", b" 01e"):
+            self.assertEqual(judged(text[:27] + digits + text[31:]), (None, "MalformedLine", 27))
 
     def test_what_is_no_line_is_a_trouble_in_one_line(self) -> None:
         with self.assertRaisesRegex(Trouble, r"\A[^\n]+ 7\Z"):
