@@ -1,10 +1,10 @@
 """The engine, run on scenes."""
 
 import os
-import subprocess
 
 from bagjulen_tools.formats.report import Report, read_report
 from bagjulen_tools.paths import TOP
+from bagjulen_tools.processes import run_program
 from bagjulen_tools.protocol.address import anonymous
 from bagjulen_tools.protocol.lines import decoded_text, line_at, text_of
 from bagjulen_tools.trouble import BAD_INPUT, BAD_WORDS, ENGINE_FAILED, Trouble
@@ -72,7 +72,7 @@ class Engine:
     def _ended(self, words: list[str], scene: bytes) -> tuple[int, bytes]:
         """The status of a run, and what it wrote. Its messages are shown."""
         try:
-            ended = subprocess.run([self.program, *words], input=scene, stdout=subprocess.PIPE)
+            ended = run_program([self.program, *words], scene, shows_messages=True, is_group=True)
         except OSError as error:
             raise Trouble(ENGINE_FAILED, f"can't run {self.program}: {error.strerror}") from None
         if ended.returncode not in (0, 1, MALFORMED):

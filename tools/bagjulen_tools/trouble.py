@@ -2,7 +2,12 @@
 
 import argparse
 import sys
+from collections.abc import Callable
 from typing import NoReturn
+
+from bagjulen_tools.files import replace_file
+from bagjulen_tools.processes import stop_all
+from bagjulen_tools.signals import Ended, catch_signals, end_of
 
 DONE = 0
 DIFFERENT = 1
@@ -11,8 +16,6 @@ BAD_INPUT = 3
 GIT_REFUSED = 4
 ENGINE_FAILED = 5
 CHANGED = 6
-# What a shell tells of a program that an interrupt ended.
-INTERRUPTED = 130
 
 STATUSES = """\
 statuses:
@@ -23,7 +26,7 @@ statuses:
   5  the engine failed
   6  the repository was changed meanwhile, or has what a bundle has otherwise, and nothing was moved
 
-Whatever isn't done gets one line on standard error."""
+Whatever isn't done gets one line on standard error. A signal that ends it, as an interrupt, has it undo what is half done."""
 
 
 class Trouble(Exception):
@@ -62,8 +65,10 @@ class ToolParser(argparse.ArgumentParser):
         raise Trouble(BAD_WORDS, f"{message} (--help tells more)")
 
 
-def end(main):
-    """Runs a tool with the words of the command line, and ends with its status."""
+def end(main: Callable[[list[str]], int]) -> NoReturn:
+    """Runs a tool with the words of the command line, and ends with its status, or of the signal that ended it."""
+    catch_signals()
+    number = 0
     try:
         status = main(sys.argv[1:])
         sys.stdout.flush()
@@ -71,15 +76,23 @@ def end(main):
         if not isinstance(trouble, ToldTrouble):
             print(f"{sys.argv[0].rpartition('/')[2]}: {trouble}", file=sys.stderr)
         status = trouble.status
-    except KeyboardInterrupt:
-        status = INTERRUPTED
+    except Ended as ended:
+        number = ended.number
     except BrokenPipeError:
         sys.stdout = None
         status = BAD_INPUT
+    except OSError as error:
+        sys.stdout = None
+        print(f"{sys.argv[0].rpartition('/')[2]}: {error.filename or 'what is written'}: {error.strerror}", file=sys.stderr)
+        status = BAD_INPUT
+    finally:
+        stop_all()
+    if number:
+        end_of(number)
     sys.exit(status)
 
 
-def read_file(path):
+def read_file(path: str) -> bytes:
     """The bytes of a file."""
     try:
         with open(path, "rb") as file:
@@ -88,10 +101,9 @@ def read_file(path):
         raise Trouble(BAD_INPUT, f"can't read {path}: {error.strerror}") from None
 
 
-def write_file(path, data):
-    """Writes a file anew."""
+def write_file(path: str, data: bytes) -> None:
+    """Puts a file with these bytes in the place of the one that stands there, when they are on the disk."""
     try:
-        with open(path, "wb") as file:
-            file.write(data)
+        replace_file(path, data)
     except OSError as error:
         raise Trouble(BAD_INPUT, f"can't write {path}: {error.strerror}") from None

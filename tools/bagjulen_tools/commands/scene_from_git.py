@@ -8,9 +8,9 @@ on the scene so far, round by round. Neither repository is changed.
 import argparse
 import os
 import sys
-import tempfile
 
 from bagjulen_tools.engine import PROGRAM, Engine
+from bagjulen_tools.files import temporary_folder
 from bagjulen_tools.formats.scene import Scene
 from bagjulen_tools.protocol.allowed import Entries
 from bagjulen_tools.protocol.connection import connect, local
@@ -28,7 +28,7 @@ def words(given: list[str]) -> argparse.Namespace:
     parser.add_argument("server", metavar="SERVER", help="a repository, a bundle, or an address as for `git fetch`")
     parser.add_argument("specs", metavar="REFSPEC", nargs="*", default=[],
                         help="none: those of --remote in CLIENT's configuration")
-    parser.add_argument("-o", dest="output", metavar="FILE", help="where the scene is written (else standard output)")
+    parser.add_argument("-o", "--output", metavar="FILE", help="where the scene is written (else standard output)")
     parser.add_argument("-c", dest="overrides", metavar="KEY=VALUE", action="append", default=[],
                         help="an entry of the configuration, as in `git -c`")
     parser.add_argument("--remote", default="origin", metavar="NAME", help="whose refspecs and tags (origin)")
@@ -70,10 +70,12 @@ def main(arguments: list[str]) -> int:
     engine, client = Engine(asked.engine), Repository(asked.client)
     engine.start()
     scene = begun(asked, client)
-    with tempfile.TemporaryDirectory() as folder:
+    with temporary_folder() as folder:
         server = opened(asked.server, folder, client.entries(asked.overrides))
-        converse(scene, server, engine)
-        server.close()
+        try:
+            converse(scene, server, engine)
+        finally:
+            server.close()
     if server.refusal is not None:
         raise Trouble(GIT_REFUSED, f"git upload-pack refused: {server.refusal}")
     if asked.output is None:

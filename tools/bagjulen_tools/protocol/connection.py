@@ -9,6 +9,7 @@ from collections.abc import Callable
 from dataclasses import dataclass
 from typing import IO
 
+from bagjulen_tools.processes import start_program, wait_or_stop
 from bagjulen_tools.protocol.address import Address, parsed
 from bagjulen_tools.protocol.allowed import Entries, check_allowed
 from bagjulen_tools.protocol.lines import (
@@ -107,7 +108,7 @@ class Connection:
             except OSError:
                 pass  # The other side ended first.
         if self._process is not None:
-            self._process.wait()
+            wait_or_stop(self._process)
         if self._messages is not None:
             self._messages.close()
 
@@ -202,8 +203,7 @@ def _by_process(words: list[str], is_heard: bool = True, is_helper: bool = False
     """A connection with a process. Where it is heard its messages are kept, and else they are shown."""
     messages = tempfile.TemporaryFile() if is_heard else None
     try:
-        process = subprocess.Popen(words, stdin=subprocess.PIPE, stdout=subprocess.PIPE, stderr=messages,
-                                   env=environment(PROTOCOL))
+        process = start_program(words, messages, environment(PROTOCOL))
     except OSError as error:
         raise Trouble(GIT_REFUSED, f"can't run {words[0]}: {error.strerror}") from None
     assert process.stdin is not None and process.stdout is not None

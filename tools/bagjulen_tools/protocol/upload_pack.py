@@ -1,9 +1,9 @@
 """The server: what real `git upload-pack` says, with plain packs in place of Git's own."""
 
 import os
-import tempfile
 from typing import Protocol
 
+from bagjulen_tools.files import temporary_folder
 from bagjulen_tools.formats.plainpack import Object, write_pack
 from bagjulen_tools.protocol.connection import Connection, is_bundle
 from bagjulen_tools.protocol.lines import MAX_PAYLOAD, Line, Mark, encoded, pieces, placed_lines, text_of
@@ -80,7 +80,7 @@ class Server:
 
     def _unpacked(self, pack: bytes) -> list[Object]:
         """The objects of one of Git's packs, in its order."""
-        with tempfile.TemporaryDirectory() as folder:
+        with temporary_folder() as folder:
             git(["init", "-q", "--bare", "--template=", f"--object-format={self.hash_name}", folder])
             git(["-C", folder, "index-pack", "--stdin", "--keep"], pack)
             batch = git(["-C", folder, "cat-file", "--batch-all-objects", "--unordered", "--batch"])

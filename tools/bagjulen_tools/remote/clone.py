@@ -2,10 +2,10 @@
 
 import argparse
 import os
-import shutil
 import sys
 
 from bagjulen_tools.engine import Engine
+from bagjulen_tools.files import clear_folder
 from bagjulen_tools.protocol.address import anonymous
 from bagjulen_tools.protocol.connection import connect, is_bundle
 from bagjulen_tools.protocol.lines import Mark, decoded_text, placed_lines, text_of
@@ -67,7 +67,7 @@ def clone(asked: argparse.Namespace, options: FetchOptions, engine: Engine) -> i
     try:
         return _clone_from(server, asked, options, engine, address, folder)
     except BaseException:
-        _clear(folder, was_there)
+        clear_folder(folder, was_there)
         raise
     finally:
         server.close()
@@ -98,15 +98,6 @@ def working_directory() -> str:
     """Where the command stands, by the name that the caller's shell has for it."""
     named, real = os.environ.get("PWD", ""), os.getcwd()
     return named if os.path.isabs(named) and os.path.exists(named) and os.path.samefile(named, real) else real
-
-
-def _clear(folder: str, was_there: bool) -> None:
-    """Takes away what was made."""
-    for name in os.listdir(folder) if was_there else []:
-        path = os.path.join(folder, name)
-        shutil.rmtree(path) if os.path.isdir(path) else os.remove(path)
-    if not was_there:
-        shutil.rmtree(folder, ignore_errors=True)
 
 
 def humanish(address: str, is_bare: bool) -> str:

@@ -1,37 +1,44 @@
 """What is asked of a real repository, and of the `git` that stands on this machine."""
 
 import os
-import subprocess
-from collections.abc import Iterable, Iterator
+import re
+import signal
+from collections.abc import Iterable, Iterator, Mapping, Sequence
 
+from bagjulen_tools.formats.grammar import DIGITS
 from bagjulen_tools.formats.plainpack import Object
+from bagjulen_tools.processes import run_program
 from bagjulen_tools.protocol.lines import decoded_text
+from bagjulen_tools.repository.reference_files import LOCK, read_references
 from bagjulen_tools.trouble import BAD_INPUT, GIT_REFUSED, Trouble
 
 # Nothing of the caller's repository is to reach another one, and messages are to be those of Git's source.
 OWN_ENVIRONMENT = {"LC_ALL": "C", "GIT_NO_REPLACE_OBJECTS": "1", "GIT_OPTIONAL_LOCKS": "0"}
 FOREIGN = ("GIT_DIR", "GIT_WORK_TREE", "GIT_INDEX_FILE", "GIT_OBJECT_DIRECTORY", "GIT_COMMON_DIR",
            "GIT_ALTERNATE_OBJECT_DIRECTORIES", "GIT_NAMESPACE", "GIT_PREFIX", "GIT_SHALLOW_FILE")
-# How the files end that keep others away from the file without it.
-LOCK = ".lock"
+# The entry of a configuration that says where references stand, and its only value that is read here.
+REF_STORAGE, FILES = "extensions.refStorage", "files"
 
 
-def environment(more):
+def environment(more: Mapping[str, str]) -> dict[str, str]:
     """The environment that Git runs in."""
     kept = {name: value for name, value in os.environ.items() if name not in FOREIGN}
     return {**kept, **OWN_ENVIRONMENT, **more}
 
 
-def run_git(words, given=b"", more=None):
+def run_git(words: Sequence[str], given: bytes = b"", more: Mapping[str, str] | None = None) -> tuple[int, bytes, str]:
     """Runs Git. Answers its status, what it wrote, and its messages."""
     try:
-        ended = subprocess.run(["git", *words], input=given, capture_output=True, env=environment(more or {}))
+        ended = run_program(["git", *words], given, environment(more or {}))
     except FileNotFoundError:
         raise Trouble(GIT_REFUSED, "there is no `git` on this machine") from None
-    return ended.returncode, ended.stdout, decoded_text(ended.stderr)
+    messages = decoded_text(ended.stderr)
+    if ended.returncode < 0:
+        messages = f"fatal: git was ended by {signal.Signals(-ended.returncode).name}\n{messages}"
+    return ended.returncode, ended.stdout, messages
 
 
-def git(words, given=b"", more=None):
+def git(words: Sequence[str], given: bytes = b"", more: Mapping[str, str] | None = None) -> bytes:
     """What Git writes. Its message is the trouble where it refuses."""
     status, out, messages = run_git(words, given, more)
     if status != 0:
@@ -39,7 +46,7 @@ def git(words, given=b"", more=None):
     return out
 
 
-def why(messages):
+def why(messages: str) -> str:
     """The first line of Git's messages that says what was wrong."""
     lines = [line for line in messages.splitlines() if line.strip()]
     told = [line for line in lines if line.startswith(("fatal:", "error:"))]
@@ -51,13 +58,16 @@ class Repository:
     would put its pack there.
     """
 
-    def __init__(self, path):
+    def __init__(self, path: str) -> None:
         status, out, messages = run_git(["-C", path, "rev-parse", "--absolute-git-dir", "--git-common-dir", "--show-cdup"])
         if status != 0:
+            for folder in (os.path.join(path, ".git"), path):
+                refuse_ref_storage(path, folder)
             raise Trouble(BAD_INPUT, f"{path} is no repository: {why(messages)}")
         self.git_dir, common, *up = decoded_text(out).splitlines()
         self.common_dir = os.path.normpath(os.path.join(path, common))
         self.path = os.path.normpath(os.path.join(path, *up))
+        refuse_ref_storage(path, self.common_dir)
 
     def git(self, *words, given=b"", more=None):
         """What Git writes when it runs in this repository."""
@@ -100,6 +110,13 @@ class Repository:
         head = self.head() if target is None else {"HEAD": f"@{target}"}
         return direct | self._symbolic_references(direct) | head
 
+    def reference_files(self) -> dict[str, str]:
+        """Each reference as its file says it, also those that lead nowhere. It is refused where one can't be read."""
+        found = read_references(self.git_dir, self.common_dir, self.hash_name())
+        for name, trouble in found.unread.items():
+            raise Trouble(BAD_INPUT, f"the reference {name} can't be read: {trouble}")
+        return found.references
+
     def direct_references(self):
         """The references under `refs/` that are ids."""
         out = decoded_text(self.git("for-each-ref", "--format=%(objectname) %(symref) %(refname)"))
@@ -137,13 +154,18 @@ class Repository:
         """Where the border stands."""
         return os.path.join(self.common_dir, "shallow")
 
-    def border(self):
+    def border(self) -> list[str]:
         """The ids of the border, ascending."""
         try:
-            with open(self.shallow_file(), encoding="ascii") as file:
-                return sorted(file.read().split())
+            with open(self.shallow_file(), "rb") as file:
+                lines = file.read().splitlines()
         except FileNotFoundError:
             return []
+        count = DIGITS[self.hash_name()] if lines else 0
+        for line in lines:
+            if re.match(rb"[0-9a-fA-F]{%d}" % count, line) is None:
+                raise Trouble(BAD_INPUT, f"{self.shallow_file()} has a line that is no id: {decoded_text(line)[:100]!r}")
+        return sorted({line[:count].decode("ascii").lower() for line in lines})
 
     def reached_commits(self):
         """The commits that references reach."""
@@ -190,12 +212,28 @@ def symbolic_target(path):
     return text.removeprefix("ref:").strip() if text.startswith("ref:") else None
 
 
-def objects_in(batch):
+def refuse_ref_storage(path: str, folder: str) -> None:
+    """Refuses a repository whose references stand elsewhere than in files, by its Git directory."""
+    file = os.path.join(folder, "config")
+    try:
+        with open(file, "rb") as opened:
+            is_told = REF_STORAGE.partition(".")[2].lower().encode() in opened.read().lower()
+    except OSError:
+        return
+    if is_told:
+        value = decoded_text(run_git(["config", "--file", file, "--get", REF_STORAGE])[1]).removesuffix("\n")
+        if value and value != FILES:
+            raise Trouble(BAD_INPUT, f"{path} has {REF_STORAGE} = {value}, and {FILES} alone is supported")
+
+
+def objects_in(batch: bytes) -> list[Object]:
     """The objects that `git cat-file --batch` wrote."""
     found, place = [], 0
     while place < len(batch):
         end = batch.index(b"\n", place)
-        digits, kind, length = batch[place:end].decode("ascii").split(" ")
-        place = end + 1 + int(length) + 1
+        digits, kind, *length = batch[place:end].decode("ascii").split(" ")
+        if not length:
+            raise Trouble(BAD_INPUT, f"the object {digits} is damaged or missing")
+        place = end + 1 + int(length[0]) + 1
         found.append(Object(digits, kind, batch[end + 1 : place - 1]))
     return found
