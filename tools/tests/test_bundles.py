@@ -11,7 +11,6 @@ from bagjulen_tools.formats.grammar import MalformedObject, is_full_name, links_
 from bagjulen_tools.formats.plainpack import Object, object_id, write_pack
 from bagjulen_tools.protocol.lines import encoded, pieces
 from bagjulen_tools.repository.apply import apply_bundle
-from bagjulen_tools.repository.fsck import references_of
 from bagjulen_tools.repository.git import Repository, git
 from bagjulen_tools.repository.locks import LockedFile
 from bagjulen_tools.trouble import BAD_INPUT, BAD_WORDS, CHANGED, GIT_REFUSED, Trouble, read_file, write_file
@@ -212,7 +211,7 @@ class WithBundles(WithRepositories):
     def state(self):
         """References as their files say them, border, and ids of objects."""
         repository = Repository(self.made)
-        return references_of(repository), repository.border(), repository.stored_ids()
+        return repository.reference_files(), repository.border(), repository.stored_ids()
 
     def assert_holds(self, bundle, more=()):
         """The repository has what the bundle has, and these references, and nothing of the tool's own."""

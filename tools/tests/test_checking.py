@@ -21,14 +21,14 @@ from bagjulen_tools.repository.fsck import (
 )
 from bagjulen_tools.repository.git import Repository
 from bagjulen_tools.trials.damage import Damage
-from bagjulen_tools.trouble import DIFFERENT, DONE, Trouble
+from bagjulen_tools.trouble import BAD_INPUT, DIFFERENT, DONE, Trouble
 
 NO_ID = "f" * 40
 
 
 class Checking(WithRepositories):
     def state(self):
-        return read_state(Repository(self.server))
+        return read_state(Repository(self.server))[0]
 
     def told(self, state):
         return told_by_git(laid_out(state, self.folder))
@@ -53,7 +53,7 @@ class Checking(WithRepositories):
         self.assertEqual(found.broken, {"refs/heads/lost", "refs/heads/a", "refs/heads/b", "refs/heads/unborn"})
         ours = Findings(broken=found.broken - {"refs/heads/unborn"})
         self.assertEqual(list(differences(state, ours, found)), [(UNBORN, "broken refs/heads/unborn")])
-        self.assertEqual(read_state(Repository(self.path("copy.git"))).references, state.references)
+        self.assertEqual(read_state(Repository(self.path("copy.git")))[0].references, state.references)
 
     def test_a_history_that_is_cut_off(self):
         state = self.state()
@@ -94,7 +94,7 @@ class Checking(WithRepositories):
         status, told, _ = run("check-repository", *DOUBLE, self.server)
         self.assertEqual((status, told.splitlines()[-1].strip()), (DONE, b"1 alike"))
         status, told, _ = run("check-repository", *DOUBLE, self.server, behaviour="malformed")
-        self.assertEqual((status, told.splitlines()[-1].strip()), (DONE, b"1 not read"))
+        self.assertEqual((status, told.splitlines()[-1].strip()), (BAD_INPUT, b"1 not read"))
         state = self.state()
         state.references["refs/heads/main"] = NO_ID
         status, told, _ = run("check-repository", *DOUBLE, laid_out(state, self.folder).path)

@@ -1,30 +1,34 @@
 """Writes the bundle of a real repository: references, border, and the objects that direct references reach.
 
-Reflogs and objects that no reference reaches are left out. The repository isn't changed.
+Reflogs and objects that no reference reaches are left out. The repository isn't changed. The bundle is read back before it is
+handed out, and a file takes the place of an older one only when it is whole and on the disk.
 """
 
+import argparse
 import sys
 
-from bagjulen_tools.formats.bundle import bundle_of
-from bagjulen_tools.repository.fsck import references_of
+from bagjulen_tools.formats.bundle import bundle_of, checked_text
 from bagjulen_tools.repository.git import Repository
+from bagjulen_tools.repository.reached import reached_state
 from bagjulen_tools.trouble import DONE, ToolParser, write_file
 
 
-def words(given):
+def words(given: list[str]) -> argparse.Namespace:
     """What the words say."""
     parser = ToolParser(__doc__)
     parser.add_argument("repository", metavar="REPOSITORY", help="a repository")
-    parser.add_argument("-o", dest="output", metavar="FILE", help="where the bundle is written (else standard output)")
+    parser.add_argument("-o", "--output", metavar="FILE", help="where the bundle is written (else standard output)")
     return parser.parse_intermixed_args(given)
 
 
 def main(arguments: list[str]) -> int:
+    """Writes the bundle, and returns 0."""
     asked = words(arguments)
-    repository = Repository(asked.repository)
-    bundle = bundle_of(repository.hash_name(), references_of(repository), repository.border(), repository.objects())
+    state = reached_state(Repository(asked.repository))
+    text = checked_text(bundle_of(state.hash_name, state.references, state.border, state.objects))
     if asked.output is None:
-        sys.stdout.buffer.write(bundle.to_bytes())
+        sys.stdout.buffer.write(text)
+        sys.stdout.buffer.flush()
     else:
-        write_file(asked.output, bundle.to_bytes())
+        write_file(asked.output, text)
     return DONE

@@ -1,12 +1,14 @@
 """A bundle: one text for one whole repository. docs/FORMATS.md has its form."""
 
 import re
+from collections.abc import Iterable
 from dataclasses import dataclass, field
 
 from bagjulen_tools.formats.ancestry import reached
-from bagjulen_tools.formats.grammar import DIGITS, MalformedObject, is_full_name, links_in
+from bagjulen_tools.formats.grammar import DIGITS, Links, MalformedObject, is_full_name, links_in
 from bagjulen_tools.formats.plainpack import MalformedPack, Object, read_records, write_pack
 from bagjulen_tools.protocol.lines import (
+    MAX_PAYLOAD,
     MalformedLine,
     Mark,
     decoded_text,
@@ -38,10 +40,15 @@ class Bundle:
     def to_bytes(self):
         """The text."""
         names = sorted(self.references, key=encoded_text)
-        texts = ["bundle 1", f"hash {self.hash_name}", *(f"ref {self.references[name]} {name}" for name in names),
+        texts = ["bundle 1", f"hash {self.hash_name}", *(_reference_text(self, name) for name in names),
                  *(f"border {digits}" for digits in self.border)]
         pack = pieces(write_pack(self.objects, PACK_VERSION, self.hash_name), PIECE)
         return b"".join(map(encoded, [*map(text_line, texts), Mark.DELIMITER, *pack, Mark.FLUSH]))
+
+
+def _reference_text(bundle: Bundle, name: str) -> str:
+    """The line that tells a reference."""
+    return f"ref {bundle.references[name]} {name}"
 
 
 class NotWhole(Exception):
@@ -196,22 +203,45 @@ def _is_whole(bundle, links):
     ends = [followed(bundle.references, name) for name in bundle.references]
     if not all(end is None or end in kinds for end in ends):
         return False
-    return reached(within, _direct_ids(bundle.references)) == kinds.keys()
+    return reached(within, direct_ids(bundle.references)) == kinds.keys()
 
 
-def bundle_of(hash_name, references, border, objects):
-    """The bundle of a repository. It is refused where what references reach isn't there, or one leads to no object."""
-    whole = Bundle(hash_name, references, sorted(border), sorted(objects, key=lambda each: each.id))
-    try:
-        links = [links_in(each, hash_name) for each in whole.objects]
-    except MalformedObject:
-        raise Trouble(BAD_INPUT, "an object breaks the grammar of its kind") from None
-    ids = reached(_links_within(whole, links), _direct_ids(references))
-    kept = [(each, found) for each, found in zip(whole.objects, links) if each.id in ids]
-    bundle = Bundle(hash_name, references, [digits for digits in whole.border if digits in ids], [each for each, _ in kept])
-    if not _is_whole(bundle, [found for _, found in kept]):
+def bundle_of(hash_name: str, references: dict[str, str], border: list[str], objects: Iterable[Object]) -> Bundle:
+    """The bundle of a repository with these objects. What its direct references don't reach is passed over.
+
+    It is refused where what they reach isn't there, one leads to no object, or a bundle has no room for its name.
+    """
+    stored, cut, rest = {each.id: each for each in objects}, set(border), direct_ids(references)
+    links: dict[str, Links] = {}
+    while rest:
+        digits = rest.pop()
+        if digits in stored and digits not in links:
+            links[digits] = links_within_grammar(stored[digits], hash_name)
+            rest += links[digits].others + ([] if digits in cut else links[digits].parents)
+    kept = sorted(links)
+    bundle = Bundle(hash_name, references, sorted(cut & links.keys()), [stored[each] for each in kept])
+    for name in references:
+        if not is_full_name(encoded_text(name)) or len(text_line(_reference_text(bundle, name))) > MAX_PAYLOAD:
+            raise Trouble(BAD_INPUT, f"the reference {name[:100]} has no place in a bundle: its name is too long, or is none")
+    if not _is_whole(bundle, [links[digits] for digits in kept]):
         raise Trouble(BAD_INPUT, "a reference leads to no object, or to one from which something is missing")
     return bundle
+
+
+def links_within_grammar(each: Object, hash_name: str) -> Links:
+    """What an object links to. One that breaks the grammar of its kind is refused by its id."""
+    try:
+        return links_in(each, hash_name)
+    except MalformedObject:
+        raise Trouble(BAD_INPUT, f"the {each.kind} {each.id} breaks the grammar of its kind") from None
+
+
+def checked_text(bundle: Bundle) -> bytes:
+    """The text of a bundle, when that was read back."""
+    text = bundle.to_bytes()
+    if read_bundle(text) != bundle:
+        raise Trouble(BAD_INPUT, "the text of the bundle is read back as another one")
+    return text
 
 
 def _links_within(bundle, links):
@@ -221,7 +251,7 @@ def _links_within(bundle, links):
             for each, found in zip(bundle.objects, links)}
 
 
-def _direct_ids(references):
+def direct_ids(references: dict[str, str]) -> list[str]:
     """The ids of the direct references."""
     return [target for target in references.values() if target[0] != "@"]
 

@@ -8,7 +8,7 @@ import os
 import tempfile
 
 from bagjulen_tools.engine import PROGRAM, Engine
-from bagjulen_tools.remote.mirror import differences, mirror, mirrored_by_git
+from bagjulen_tools.remote.mirror import Mirrored, differences, mirror, mirrored_by_git
 from bagjulen_tools.repository.git import Repository
 from bagjulen_tools.trials.pairs import Maker
 from bagjulen_tools.trouble import DIFFERENT, DONE, ToolParser, Trouble
@@ -27,7 +27,7 @@ def words(given):
     return parser.parse_intermixed_args(given)
 
 
-def compared(number, seed, engine):
+def compared(number: int, seed: str, engine: Engine) -> tuple[list[str], Mirrored]:
     """What is otherwise in the mirrors of a repository, in words, and how many objects and references came."""
     with tempfile.TemporaryDirectory() as folder:
         server = Repository(Maker(folder, f"{seed}/{number}", "whole").pair().server)
@@ -48,6 +48,6 @@ def main(arguments: list[str]) -> int:
             raise Trouble(trouble.status, f"repository {number}: {trouble}") from None
         if found:
             print(f"repository {number}, {number % MOST_WORKERS + 1} workers:", *found, sep="\n    ", flush=True)
-        others, objects, references = others + bool(found), objects + came[0], references + came[1]
+        others, objects, references = others + bool(found), objects + came.objects, references + came.references
     print(f"{asked.count} repositories of seed {asked.seed}, {objects} objects and {references} references: {others} otherwise")
     return DIFFERENT if others else DONE

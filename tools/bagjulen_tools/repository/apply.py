@@ -5,12 +5,17 @@ compared with what was before. What commits the changes is a process that outliv
 and references all as they were, or all changed.
 """
 
+from collections.abc import Callable, Sequence
 from contextlib import ExitStack, closing
 
+from bagjulen_tools.formats.bundle import Bundle
 from bagjulen_tools.formats.gitpack import store
 from bagjulen_tools.repository.detached_process import outlive
+from bagjulen_tools.repository.git import Repository
 from bagjulen_tools.repository.locks import clear
 from bagjulen_tools.repository.moves import (
+    HeadMove,
+    Move,
     has_begun,
     moves_of,
     moves_to,
@@ -18,7 +23,7 @@ from bagjulen_tools.repository.moves import (
     refuse_changed_border,
 )
 from bagjulen_tools.repository.transaction import BorderChange, changes_of
-from bagjulen_tools.trouble import BAD_INPUT, CHANGED, Trouble
+from bagjulen_tools.trouble import BAD_INPUT, CHANGED, GIT_REFUSED, Trouble
 
 # The committer of an engine's reflog lines.
 SCENES_COMMITTER = {"GIT_COMMITTER_NAME": "fetch", "GIT_COMMITTER_EMAIL": "fetch@localhost",
@@ -42,15 +47,33 @@ def apply(repository, scene, report, committer=None, reached=lambda step: None):
     return len(objects), len(moves)
 
 
-def apply_bundle(repository, bundle, reached=lambda step: None):
-    """Writes a bundle, and answers how many objects were stored and how many references moved. `reached` as for `apply`."""
+def apply_bundle(repository: Repository, bundle: Bundle, reached: Callable[[str], None] = lambda step: None,
+                 is_forced: bool = False) -> tuple[int, int]:
+    """Writes a bundle, and answers how many objects were stored and how many references moved. `reached` as for `apply`.
+
+    Where it is forced, references that stand otherwise move, but not what a work tree has checked out.
+    """
     clear(repository)
-    moves = moves_to(bundle.references, repository.references())
+    standing = repository.references()
+    moves = moves_to(bundle.references, standing, is_forced)
+    _refuse_checked_out(repository, moves)
     border = _both_borders(repository, bundle)
     stored = repository.stored_ids()
     objects = [each for each in bundle.objects if each.id not in stored]
     _write(repository, objects, border, moves, {}, reached)
     return len(objects), len(moves)
+
+
+def _refuse_checked_out(repository: Repository, moves: Sequence[Move]) -> None:
+    """Refuses moves of a branch that a work tree has checked out, or of the `HEAD` of one."""
+    others = {each.name for each in moves if each.old is not None and not isinstance(each, HeadMove)}
+    if not others:
+        return
+    places = dict(repository.worktrees())
+    if repository.work_tree() is not None:
+        places["HEAD"] = repository.path
+    for name in sorted(others & places.keys()):
+        raise Trouble(GIT_REFUSED, f"{name} is checked out at {places[name]}; nothing was moved")
 
 
 def _both_borders(repository, bundle):

@@ -8,7 +8,8 @@ from bagjulen_tools.formats.bundle import followed
 from bagjulen_tools.formats.gitpack import store
 from bagjulen_tools.formats.scene import Scene
 from bagjulen_tools.protocol.lines import decoded_text, encoded_text
-from bagjulen_tools.repository.git import LOCK, Repository, git, run_git
+from bagjulen_tools.repository.git import Repository, git, run_git
+from bagjulen_tools.repository.object_reader import ObjectReader
 from bagjulen_tools.trouble import ENGINE_FAILED, Trouble
 
 INVALID = re.compile(r"error: (\S+): invalid sha1 pointer [0-9a-f]+")
@@ -42,37 +43,14 @@ class Findings:
         return len(self.links) + len(self.broken) + len(self.unreached)
 
 
-def read_state(repository):
-    """The repository as a scene: references as their files say them, border and objects."""
-    return Scene(hash_name=repository.hash_name(), git_dir=repository.git_dir, references=references_of(repository),
-                 border=repository.border(), objects=repository.objects())
-
-
-def references_of(repository):
-    """Each reference, also those that lead to nothing, which Git lists nowhere."""
-    found = _packed(os.path.join(repository.common_dir, "packed-refs"))
-    for folder, _, files in os.walk(os.path.join(repository.common_dir, "refs")):
-        front = os.path.relpath(folder, repository.common_dir)
-        found |= {f"{front}/{name}": _target(os.path.join(folder, name)) for name in files if not name.endswith(LOCK)}
-    found["HEAD"] = _target(os.path.join(repository.git_dir, "HEAD"))
-    return {name: target for name, target in found.items() if target is not None}
-
-
-def _packed(path):
-    if not os.path.exists(path):
-        return {}
-    with open(path, "rb") as file:
-        lines = decoded_text(file.read()).splitlines()
-    return {name: digits for digits, _, name in (line.partition(" ") for line in lines) if digits[:1] not in ("#", "^", "")}
-
-
-def _target(path):
-    """An id, or `@` and a name; None where the file says neither."""
-    with open(path, "rb") as file:
-        text = decoded_text(file.read()).strip()
-    if text.startswith("ref:"):
-        return f"@{text.removeprefix('ref:').strip()}"
-    return text if re.fullmatch("[0-9a-f]{40}|[0-9a-f]{64}", text) else None
+def read_state(repository: Repository) -> tuple[Scene, dict[str, str]]:
+    """The repository as a scene: references as their files say them, border, and the objects that can be read; and the ids
+    of those that can't, with Git's words.
+    """
+    with ObjectReader(repository) as reader:
+        state = Scene(hash_name=repository.hash_name(), git_dir=repository.git_dir, references=repository.reference_files(),
+                      border=repository.border(), objects=list(reader.all()))
+        return state, reader.damaged
 
 
 def laid_out(state, folder):

@@ -45,17 +45,17 @@ def moves_of(scene, report, standing):
     return moves
 
 
-def moves_to(references, standing):
-    """The moves that make these references stand, without those that stand already, where no other has one of the names.
-    A `HEAD` that leads to an absent name is none.
+def moves_to(references: dict[str, str], standing: dict[str, str], is_forced: bool = False) -> list[Move]:
+    """The moves that make these references stand, without those that stand already, where no other has one of the names,
+    unless it is forced. A `HEAD` that leads to an absent name is none.
     """
     others = {name: new for name, new in references.items() if standing.get(name) != new}
-    moves = [_move_to(name, new, standing) for name, new in others.items()]
+    moves = [_move_to(name, new, standing, is_forced) for name, new in others.items()]
     _refuse_nested(moves, standing)
     return moves
 
 
-def _move_to(name, new, standing):
+def _move_to(name: str, new: str, standing: dict[str, str], is_forced: bool) -> Move:
     if name != "HEAD" and not name.startswith("refs/"):
         raise Trouble(GIT_REFUSED, f"{name} is neither HEAD nor below refs/, where Git has its references; nothing was moved")
     old = standing.get(name)
@@ -63,6 +63,8 @@ def _move_to(name, new, standing):
         return Move(name, None, new, None)
     if name == "HEAD" and followed(standing, name) is None:
         return HeadMove(name, old, new, None)
+    if is_forced:
+        return Move(name, old, new, None)
     raise Trouble(CHANGED, f"{name} stands otherwise: the bundle has {new}, and {old} stands there; nothing was moved")
 
 
