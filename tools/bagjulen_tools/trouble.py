@@ -107,3 +107,11 @@ def write_file(path: str, data: bytes) -> None:
         replace_file(path, data)
     except OSError as error:
         raise Trouble(BAD_INPUT, f"can't write {path}: {error.strerror}") from None
+
+
+def write_output(data: bytes) -> None:
+    """Writes bytes to standard output, all of them also where it has no buffer and takes a part at a time."""
+    rest = memoryview(data)
+    while rest:
+        rest = rest[sys.stdout.buffer.write(rest) :]
+    sys.stdout.buffer.flush()

@@ -5,12 +5,11 @@ handed out, and a file takes the place of an older one only when it is whole and
 """
 
 import argparse
-import sys
 
 from bagjulen_tools.formats.bundle import bundle_of, checked_text
 from bagjulen_tools.repository.git import Repository
 from bagjulen_tools.repository.reached import reached_state
-from bagjulen_tools.trouble import DONE, ToolParser, write_file
+from bagjulen_tools.trouble import DONE, ToolParser, write_file, write_output
 
 
 def words(given: list[str]) -> argparse.Namespace:
@@ -27,8 +26,7 @@ def main(arguments: list[str]) -> int:
     state = reached_state(Repository(asked.repository))
     text = checked_text(bundle_of(state.hash_name, state.references, state.border, state.objects))
     if asked.output is None:
-        sys.stdout.buffer.write(text)
-        sys.stdout.buffer.flush()
+        write_output(text)
     else:
         write_file(asked.output, text)
     return DONE

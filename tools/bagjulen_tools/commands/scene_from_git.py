@@ -7,7 +7,6 @@ on the scene so far, round by round. Neither repository is changed.
 
 import argparse
 import os
-import sys
 
 from bagjulen_tools.engine import PROGRAM, Engine
 from bagjulen_tools.files import temporary_folder
@@ -18,7 +17,7 @@ from bagjulen_tools.protocol.upload_pack import Server, unbundled
 from bagjulen_tools.remote.client import remote_of, scene_of
 from bagjulen_tools.remote.conversation import converse
 from bagjulen_tools.repository.git import Repository
-from bagjulen_tools.trouble import BAD_INPUT, DONE, GIT_REFUSED, ToolParser, Trouble, write_file
+from bagjulen_tools.trouble import BAD_INPUT, DONE, GIT_REFUSED, ToolParser, Trouble, write_file, write_output
 
 
 def words(given: list[str]) -> argparse.Namespace:
@@ -79,7 +78,7 @@ def main(arguments: list[str]) -> int:
     if server.refusal is not None:
         raise Trouble(GIT_REFUSED, f"git upload-pack refused: {server.refusal}")
     if asked.output is None:
-        sys.stdout.buffer.write(scene.to_bytes())
+        write_output(scene.to_bytes())
     else:
         write_file(asked.output, scene.to_bytes())
     return DONE

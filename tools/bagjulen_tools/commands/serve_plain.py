@@ -13,14 +13,9 @@ from bagjulen_tools.protocol.connection import lines_from, local
 from bagjulen_tools.protocol.lines import Line, MalformedLine, Mark, length_of, line_at, placed_lines
 from bagjulen_tools.protocol.upload_pack import Server
 from bagjulen_tools.repository.git import Repository
-from bagjulen_tools.trouble import BAD_INPUT, DONE, GIT_REFUSED, ToolParser, Trouble
+from bagjulen_tools.trouble import BAD_INPUT, DONE, GIT_REFUSED, ToolParser, Trouble, write_output
 
 FIRST = b"git-upload-pack "
-
-
-def say(data: bytes) -> None:
-    sys.stdout.buffer.write(data)
-    sys.stdout.buffer.flush()
 
 
 def first_line(reader: IO[bytes]) -> bytes:
@@ -49,9 +44,9 @@ def main(arguments: list[str]) -> int:
     try:
         if not first_line(reader).startswith(FIRST):
             raise Trouble(BAD_INPUT, "the peer's first line isn't `git-upload-pack <address>`")
-        say(server.greeting())
+        write_output(server.greeting())
         for request in requests(reader):
-            say(server.answer(request))
+            write_output(server.answer(request))
             if server.refusal is not None:
                 raise Trouble(GIT_REFUSED, f"git upload-pack refused: {server.refusal}")
     finally:
