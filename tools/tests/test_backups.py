@@ -217,7 +217,7 @@ class Elsewhere(WithRepositories):
         git(["init", "-q", self.path("other")])
         status, told, messages = run("apply-report", self.path("scene"), self.path("report"), self.path("other"))
         self.assertEqual((status, messages), (DONE, "apply-report: warning: the scene was made from "
-                                              f"{self.client}/.git, and is written into {self.path('other')}/.git\n"))
+                                              f"{self.client}/.git, and was written into {self.path('other')}/.git\n"))
         self.assertEqual(run("apply-report", self.path("scene"), self.path("report"), self.client)[2], "")
 
 

@@ -42,9 +42,9 @@ def main(arguments: list[str]) -> int:
         raise Trouble(DIFFERENT, f"the fetch was refused: {refusal_words(report.refused)}")
     if repository.hash_name() != scene.hash_name:
         raise Trouble(BAD_INPUT, f"{asked.repository} has {repository.hash_name()}, and the scene {scene.hash_name}")
-    if os.path.realpath(scene.git_dir) != os.path.realpath(repository.git_dir):
-        print(f"apply-report: warning: the scene was made from {scene.git_dir}, and is written into {repository.git_dir}",
-              file=sys.stderr)
     objects, references = apply(repository, scene, report, SCENES_COMMITTER if asked.scenes_committer else None)
+    if os.path.realpath(scene.git_dir) != os.path.realpath(repository.git_dir):
+        print(f"apply-report: warning: the scene was made from {scene.git_dir}, and was written into {repository.git_dir}",
+              file=sys.stderr)
     print(f"{objects} objects stored, {references} references moved")
     return DONE
