@@ -12,17 +12,18 @@ from bagjulen_tools.signals import held_signals, is_ending
 PATIENCE = 5.0
 
 
-_started: list[subprocess.Popen[bytes]] = []
+# What was started and may run yet, and whether each leads a group.
+_started: list[tuple[subprocess.Popen[bytes], bool]] = []
 
 
 def start_program(words: Sequence[str], stderr: int | IO[bytes] | None = None, env: Mapping[str, str] | None = None,
                   is_group: bool = False) -> subprocess.Popen[bytes]:
     """Starts a program, whose input and output are pipes. Where it leads a group, what it starts ends with it."""
-    _started[:] = [each for each in _started if each.poll() is None]
+    _started[:] = [each for each in _started if each[0].poll() is None]
     with held_signals():
         process = subprocess.Popen(words, stdin=subprocess.PIPE, stdout=subprocess.PIPE, stderr=stderr, env=env,
                                    start_new_session=is_group)
-        _started.append(process)
+        _started.append((process, is_group))
     return process
 
 
@@ -40,9 +41,9 @@ def run_program(words: Sequence[str], given: bytes = b"", env: Mapping[str, str]
 
 def stop_all() -> None:
     """Ends all programs that run."""
-    for each in _started:
-        if each.poll() is None:
-            stop(each)
+    for process, is_group in _started:
+        if process.poll() is None:
+            stop(process, is_group)
 
 
 def stop(process: subprocess.Popen[bytes], is_group: bool = False) -> None:

@@ -1,6 +1,7 @@
 """How a tool ends: its statuses, its one line for what went wrong, and its words."""
 
 import argparse
+import os
 import sys
 from collections.abc import Callable
 from typing import NoReturn
@@ -79,10 +80,10 @@ def end(main: Callable[[list[str]], int]) -> NoReturn:
     except Ended as ended:
         number = ended.number
     except BrokenPipeError:
-        sys.stdout = None
+        _drop_output()
         status = BAD_INPUT
     except OSError as error:
-        sys.stdout = None
+        _drop_output()
         print(f"{sys.argv[0].rpartition('/')[2]}: {error.filename or 'what is written'}: {error.strerror}", file=sys.stderr)
         status = BAD_INPUT
     finally:
@@ -90,6 +91,11 @@ def end(main: Callable[[list[str]], int]) -> NoReturn:
     if number:
         end_of(number)
     sys.exit(status)
+
+
+def _drop_output() -> None:
+    """Has what is still to be written to standard output go nowhere, so that nothing is told of it at the end."""
+    os.dup2(os.open(os.devnull, os.O_WRONLY), sys.stdout.fileno())
 
 
 def read_file(path: str) -> bytes:
