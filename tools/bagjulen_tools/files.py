@@ -16,7 +16,7 @@ FRONT = ".bagjulen-"
 def replace_file(path: str, data: bytes) -> None:
     """Puts a file with these bytes in the place of the one at a path, when they are on the disk.
 
-    Until then the old file stands. A symbolic link is followed, and what is no file, as a pipe, is written to.
+    Until then the old file stands. A symbolic link is followed, and a pipe is written to.
     """
     target = os.path.realpath(path)
     if os.path.exists(target) and not os.path.isfile(target):

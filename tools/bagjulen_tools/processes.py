@@ -16,13 +16,13 @@ PATIENCE = 5.0
 _started: list[tuple[subprocess.Popen[bytes], bool]] = []
 
 
-def start_program(words: Sequence[str], stderr: int | IO[bytes] | None = None, env: Mapping[str, str] | None = None,
-                  is_group: bool = False) -> subprocess.Popen[bytes]:
-    """Starts a program, whose input and output are pipes. Where it leads a group, what it starts ends with it."""
+def start_program(words: Sequence[str], stderr: int | IO[bytes] | None = None,
+                  env: Mapping[str, str] | None = None, is_group: bool = False) -> subprocess.Popen[bytes]:
+    """Starts a program, whose input and output are pipes. What a leader of a group starts ends with it."""
     _started[:] = [each for each in _started if each[0].poll() is None]
     with held_signals():
-        process = subprocess.Popen(words, stdin=subprocess.PIPE, stdout=subprocess.PIPE, stderr=stderr, env=env,
-                                   start_new_session=is_group)
+        process = subprocess.Popen(words, stdin=subprocess.PIPE, stdout=subprocess.PIPE, stderr=stderr,
+                                   env=env, start_new_session=is_group)
         _started.append((process, is_group))
     return process
 

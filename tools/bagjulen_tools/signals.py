@@ -1,4 +1,4 @@
-"""Signals that end a tool: it undoes what is half done, and then ends as of the signal, which is what Git does."""
+"""Signals that end a tool: it undoes what is half done, and then ends of the signal, as Git does."""
 
 import gc
 import os
@@ -21,13 +21,13 @@ class Ended(KeyboardInterrupt):
 
 
 class _State:
-    """Which process is ended by exceptions, how many hold signals back, which came meanwhile, and whether one was told."""
+    """Which process is ended so, how many hold signals back, which came meanwhile, and whether one did."""
 
     owner, holds, pending, is_ended = 0, 0, 0, False
 
 
 def catch_signals() -> None:
-    """Has the signals that end this process raise `Ended`, the first of them alone. One that is ignored stays so."""
+    """Has the first signal that ends this process raise `Ended`. One that is ignored stays so."""
     _State.owner = os.getpid()
     for each in ENDING:
         if signal.getsignal(each) is not signal.SIG_IGN:

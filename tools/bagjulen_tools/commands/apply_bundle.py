@@ -1,12 +1,14 @@
 """Writes a bundle into a real repository: objects, border and references.
 
-REPOSITORY may be empty, or have references, objects and a border of its own, which stay. A reference that the bundle has
-too has to stand there as in the bundle, and else nothing is moved; so does HEAD, unless it leads to an absent name. Neither
-may one border cut off a history that the other side has. With --force such references move to where the bundle has them,
-unless a work tree has one checked out; those that the bundle hasn't stay.
+REPOSITORY may be empty, or have references, objects and a border of its own, which stay. A reference that
+the bundle has too has to stand there as in the bundle, and else nothing is moved; so does HEAD, unless it
+leads to an absent name. Neither may one border cut off a history that the other side has. With --force such
+references move to where the bundle has them, unless a work tree has one checked out; those that the bundle
+hasn't stay.
 
-The text is checked whole before anything is written. Objects stand before anything moves, and then border and references
-move together, as by apply-report: docs/REAL-GIT.md says what is refused, and what a run leaves that is killed.
+The text is checked whole before anything is written. Objects stand before anything moves, and then border
+and references move together, as by apply-report: docs/REAL-GIT.md says what is refused, and what a run
+leaves that is killed.
 """
 
 import argparse
@@ -22,7 +24,8 @@ def words(given: list[str]) -> argparse.Namespace:
     parser = ToolParser(__doc__)
     parser.add_argument("bundle", metavar="BUNDLE", help="the bundle")
     parser.add_argument("repository", metavar="REPOSITORY", help="where it is written")
-    parser.add_argument("-f", "--force", action="store_true", help="move references that stand otherwise, too")
+    parser.add_argument("-f", "--force", action="store_true",
+                        help="move references that stand otherwise, too")
     return parser.parse_intermixed_args(given)
 
 

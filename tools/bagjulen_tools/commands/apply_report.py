@@ -1,12 +1,12 @@
 """Writes what a report tells into a real repository: objects, border, references and reflog lines.
 
-The objects' bytes are those of the scene whose report it is. REPOSITORY is the client that the scene was made from; of
-another one a warning says so, and what is written is the same.
-Each reference that the report moves, and the border where it moves that, has to be there as it was in the scene, or as
-the report leaves it; else nothing is moved. What the report leaves as it was stays, wherever it stands.
+The objects' bytes are those of the scene whose report it is. REPOSITORY is the client that the scene was
+made from; of another one a warning says so, and what is written is the same. Each reference that the report
+moves, and the border where it moves that, has to be there as it was in the scene, or as the report leaves
+it; else nothing is moved. What the report leaves as it was stays, wherever it stands.
 
-Objects stand before anything moves, and then border and references move together: docs/REAL-GIT.md says what is
-refused, and what a run leaves that is killed.
+Objects stand before anything moves, and then border and references move together: docs/REAL-GIT.md says what
+is refused, and what a run leaves that is killed.
 """
 
 import argparse
@@ -44,7 +44,7 @@ def main(arguments: list[str]) -> int:
         raise Trouble(BAD_INPUT, f"{asked.repository} has {repository.hash_name()}, and the scene {scene.hash_name}")
     objects, references = apply(repository, scene, report, SCENES_COMMITTER if asked.scenes_committer else None)
     if os.path.realpath(scene.git_dir) != os.path.realpath(repository.git_dir):
-        print(f"apply-report: warning: the scene was made from {scene.git_dir}, and was written into {repository.git_dir}",
-              file=sys.stderr)
+        print(f"apply-report: warning: the scene was made from {scene.git_dir}, and was written into "
+              f"{repository.git_dir}", file=sys.stderr)
     print(f"{objects} objects stored, {references} references moved")
     return DONE

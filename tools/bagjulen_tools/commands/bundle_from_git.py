@@ -1,7 +1,8 @@
 """Writes the bundle of a real repository: references, border, and the objects that direct references reach.
 
-Reflogs and objects that no reference reaches are left out. The repository isn't changed. The bundle is read back before it is
-handed out, and a file takes the place of an older one only when it is whole and on the disk.
+Reflogs and objects that no reference reaches are left out. The repository isn't changed. The bundle is read
+back before it is handed out, and a file takes the place of an older one only when it is whole and on the
+disk.
 """
 
 import argparse
@@ -16,7 +17,8 @@ def words(given: list[str]) -> argparse.Namespace:
     """What the words say."""
     parser = ToolParser(__doc__)
     parser.add_argument("repository", metavar="REPOSITORY", help="a repository")
-    parser.add_argument("-o", "--output", metavar="FILE", help="where the bundle is written (else standard output)")
+    parser.add_argument("-o", "--output", metavar="FILE",
+                        help="where the bundle is written (else standard output)")
     return parser.parse_intermixed_args(given)
 
 

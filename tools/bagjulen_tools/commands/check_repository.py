@@ -1,10 +1,11 @@
 """Checks real repositories by the engine and by `git fsck --connectivity-only`, and compares what both find.
 
-Each REPOSITORY is taken with its references, border and objects, without logs, index and work trees, and none is changed.
-With --damage each is harmed first, in one to three of six ways that the seed draws: a file, a tree or a commit is gone, a
-reference has an id that isn't there, names lead in a circle, a commit enters the border. Differences that have a reason are
-counted by it. An object that can't be read is told and counts as one that isn't there; a repository that can't be read, or of
-which the engine can't read the scene, is told and passed over: in both cases the status is 3, unless it is 1.
+Each REPOSITORY is taken with its references, border and objects, without logs, index and work trees, and
+none is changed. With --damage each is harmed first, in one to three of six ways that the seed draws: a file,
+a tree or a commit is gone, a reference has an id that isn't there, names lead in a circle, a commit enters
+the border. Differences that have a reason are counted by it. An object that can't be read is told and counts
+as one that isn't there; a repository that can't be read, or of which the engine can't read the scene, is
+told and passed over: in both cases the status is 3, unless it is 1.
 """
 
 import argparse
@@ -52,7 +53,8 @@ def compared(state: Scene, engine: Engine) -> tuple[list[str], list[str]]:
         theirs = told_by_git(laid_out(state, folder))
     found = list(differences(state, ours, theirs))
     told = f"{len(ours.links)} links, {len(ours.broken)} references, {len(ours.unreached)} objects"
-    return [told, *(f"{reason}: {what}" for reason, what in found if reason == UNEXPLAINED)], [reason for reason, _ in found]
+    others = [f"{reason}: {what}" for reason, what in found if reason == UNEXPLAINED]
+    return [told, *others], [reason for reason, _ in found]
 
 
 def checked(path: str, number: int, asked: argparse.Namespace, engine: Engine) -> set[str]:
@@ -67,13 +69,15 @@ def checked(path: str, number: int, asked: argparse.Namespace, engine: Engine) -
             raise
         print(f"{path}: {trouble}", flush=True)
         return {NOT_READ}
-    lost = [f"the object {digits} can't be read, and counts as missing: {why}" for digits, why in damaged.items()]
-    print(f"{path}: {', '.join(harm) or 'as it stands'}: {told[0]}", *lost, *told[1:], sep="\n    ", flush=True)
+    lost = [f"the object {digits} can't be read, and counts as missing: {why}"
+            for digits, why in damaged.items()]
+    first = f"{path}: {', '.join(harm) or 'as it stands'}: {told[0]}"
+    print(first, *lost, *told[1:], sep="\n    ", flush=True)
     return set(reasons) | ({NOT_READ} if damaged else set()) or {"alike"}
 
 
 def main(arguments: list[str]) -> int:
-    """Checks each repository, and returns 1 where something differs, or else 3 where something wasn't read."""
+    """Checks each, and returns 1 where something differs, or else 3 where something wasn't read."""
     asked = words(arguments)
     engine = Engine(asked.engine)
     counts: Counter[str] = Counter()

@@ -77,7 +77,9 @@ def read_bundle(data):
 
 
 def judged(data):
-    """The bundle that the bytes are and two times None; or None, the name of why they are none, and its detail."""
+    """The bundle that the bytes are and two times None; or None, the name of why they are none, and its
+    detail.
+    """
     try:
         return _bundle(data), None, None
     except MalformedLine as error:
@@ -122,7 +124,9 @@ def _hash(data):
 
 
 def _payload_at(data, place):
-    """The payload of the line at a place, and the place behind it. None where no line with a payload stands there."""
+    """The payload of the line at a place, and the place behind it. None where no line with a payload stands
+    there.
+    """
     digits = data[place : place + 4]
     try:
         line, end = line_at(data, place)
@@ -163,7 +167,9 @@ def _is_id(digits, count):
 
 
 def _joined(data, place):
-    """What the pieces from a place on have, of which the last alone may be shorter, and the place behind them."""
+    """What the pieces from a place on have, of which the last alone may be shorter, and the place behind
+    them.
+    """
     found, is_last = [], False
     while not is_last:
         payload, end = _payload_at(data, place)
@@ -206,10 +212,12 @@ def _is_whole(bundle, links):
     return reached(within, direct_ids(bundle.references)) == kinds.keys()
 
 
-def bundle_of(hash_name: str, references: dict[str, str], border: list[str], objects: Iterable[Object]) -> Bundle:
+def bundle_of(hash_name: str, references: dict[str, str], border: list[str],
+              objects: Iterable[Object]) -> Bundle:
     """The bundle of a repository with these objects. What its direct references don't reach is passed over.
 
-    It is refused where what they reach isn't there, one leads to no object, or a bundle has no room for its name.
+    It is refused where what they reach isn't there, one leads to no object, or a bundle has no room for its
+    name.
     """
     stored, cut, rest = {each.id: each for each in objects}, set(border), direct_ids(references)
     links: dict[str, Links] = {}
@@ -221,8 +229,10 @@ def bundle_of(hash_name: str, references: dict[str, str], border: list[str], obj
     kept = sorted(links)
     bundle = Bundle(hash_name, references, sorted(cut & links.keys()), [stored[each] for each in kept])
     for name in references:
-        if not is_full_name(encoded_text(name)) or len(text_line(_reference_text(bundle, name))) > MAX_PAYLOAD:
-            raise Trouble(BAD_INPUT, f"the reference {name[:100]} has no place in a bundle: its name is too long, or is none")
+        is_too_long = len(text_line(_reference_text(bundle, name))) > MAX_PAYLOAD
+        if is_too_long or not is_full_name(encoded_text(name)):
+            why = "its name is too long" if is_too_long else "its name is none that Git takes"
+            raise Trouble(BAD_INPUT, f"the reference {name[:100]} has no place in a bundle: {why}")
     if not _is_whole(bundle, [links[digits] for digits in kept]):
         raise Trouble(BAD_INPUT, "a reference leads to no object, or to one from which something is missing")
     return bundle
@@ -257,7 +267,9 @@ def direct_ids(references: dict[str, str]) -> list[str]:
 
 
 def followed(references, name):
-    """The id that a reference leads to by names; None where it leads to an absent one, and a name where there are too many."""
+    """The id that a reference leads to by names; None where it leads to an absent one, and a name where
+    there are too many.
+    """
     for _ in range(NAMES):
         target = references.get(name)
         if target is None or target[0] != "@":

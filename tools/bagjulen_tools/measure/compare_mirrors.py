@@ -1,7 +1,8 @@
 """Mirrors random repositories by the engine and by `git clone --mirror`, and prints what is otherwise.
 
-COUNT repositories are made from SEED, always the same ones, with branches, tags, symbolic references and either hash; the
-first is mirrored by one worker, the next by two, and so on up to eight and again. Compared is what mirror-git compares.
+COUNT repositories are made from SEED, always the same ones, with branches, tags, symbolic references and
+either hash; the first is mirrored by one worker, the next by two, and so on up to eight and again. Compared
+is what mirror-git compares.
 """
 
 import os
@@ -33,7 +34,8 @@ def compared(number: int, seed: str, engine: Engine) -> tuple[list[str], Mirrore
         server = Repository(Maker(folder, f"{seed}/{number}", "whole").pair().server)
         place = os.path.join(folder, "ours.git")
         came = mirror(server, place, number % MOST_WORKERS + 1, engine)
-        return list(differences(Repository(place), mirrored_by_git(server, os.path.join(folder, "theirs.git")))), came
+        theirs = mirrored_by_git(server, os.path.join(folder, "theirs.git"))
+        return list(differences(Repository(place), theirs)), came
 
 
 def main(arguments: list[str]) -> int:
@@ -48,6 +50,7 @@ def main(arguments: list[str]) -> int:
             raise Trouble(trouble.status, f"repository {number}: {trouble}") from None
         if found:
             print(f"repository {number}, {number % MOST_WORKERS + 1} workers:", *found, sep="\n    ", flush=True)
-        others, objects, references = others + bool(found), objects + came.objects, references + came.references
+        others += bool(found)
+        objects, references = objects + came.objects, references + came.references
     print(f"{asked.count} repositories of seed {asked.seed}, {objects} objects and {references} references: {others} otherwise")
     return DIFFERENT if others else DONE

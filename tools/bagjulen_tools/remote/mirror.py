@@ -21,8 +21,8 @@ REMOTE = (("url", ""), ("fetch", "+refs/*:refs/*"), ("mirror", "true"))
 
 @dataclass
 class Mirrored:
-    """What came of a mirror: how many objects were stored, references made or moved, and references removed; and the ids of
-    the objects that stood there before.
+    """What came of a mirror: how many objects were stored, references made or moved, and references removed;
+    and the ids of the objects that stood there before.
     """
 
     objects: int
@@ -32,7 +32,8 @@ class Mirrored:
 
 
 def mirror(server: Repository, place: str, workers: int, engine: Engine) -> Mirrored:
-    """Mirrors a repository by so many workers of the engine into a new bare repository, or into the one that was made so.
+    """Mirrors a repository by so many workers of the engine into a new bare repository, or into the one that
+    was made so.
 
     Where a new one can't be written, nothing of it stays.
     """
@@ -75,15 +76,17 @@ def made(place: str, hash_name: str) -> Repository:
 
 
 def _write(client: Repository, state: Scene, report: Report) -> Mirrored:
-    """Writes a mirror: first goes what the server hasn't any more, so that no name is in the way of another."""
+    """Writes a mirror. First goes what the server hasn't any more: no name is in the way of another."""
     before, stored = client.references(), client.stored_ids()
-    gone = {name: target for name, target in before.items() if name != "HEAD" and name not in report.references}
+    gone = {name: target for name, target in before.items() if name not in {"HEAD", *report.references}}
     lines = [f"delete {name}" + (f" {target}" if target[0] != "@" else "") for name, target in gone.items()]
-    client.git("update-ref", "--no-deref", "--stdin", given=encoded_text("".join(f"{line}\n" for line in lines)))
-    # What stood in the client is what the report is compared with, and the objects' bytes are those of the server.
+    given = encoded_text("".join(f"{line}\n" for line in lines))
+    client.git("update-ref", "--no-deref", "--stdin", given=given)
+    # What stood in the client is what the report is compared with, and the objects' bytes are those of the
+    # server.
     standing = {name: target for name, target in before.items() if name not in gone}
-    scene = Scene(hash_name=state.hash_name, git_dir=client.git_dir, references=standing, border=client.border(),
-                  objects=state.objects)
+    scene = Scene(hash_name=state.hash_name, git_dir=client.git_dir, references=standing,
+                  border=client.border(), objects=state.objects)
     objects, references = apply(client, scene, report)
     _point_head(client, state.references["HEAD"], report)
     return Mirrored(objects, references, len(gone), stored)
@@ -104,8 +107,8 @@ def mirrored_by_git(server: Repository, place: str) -> Repository:
 
 
 def differences(ours: Repository, theirs: Repository, ids_before: Set[str] = frozenset()) -> Iterator[str]:
-    """What two mirrors have otherwise, in words: references under `refs/`, the objects that these reach, and what `git fsck`
-    says. Ours may have objects that stood there before.
+    """What two mirrors have otherwise, in words: references under `refs/`, the objects that these reach, and
+    what `git fsck` says. Ours may have objects that stood there before.
     """
     mine, real = ours.direct_references(), theirs.direct_references()
     for name in sorted(name for name in mine.keys() | real.keys() if mine.get(name) != real.get(name)):
@@ -125,7 +128,9 @@ def reached_ids(repository: Repository) -> set[str]:
 
 
 def fsck(repository: Repository) -> tuple[int, list[str]]:
-    """The status of `git fsck` and its words, but for those about what nothing reaches and where `HEAD` leads."""
+    """The status of `git fsck` and its words, but for those about what nothing reaches and where `HEAD`
+    leads.
+    """
     status, out, messages = run_git(["-C", repository.path, "fsck", "--full", "--no-progress"])
     lines = out.decode(errors="replace").splitlines() + messages.splitlines()
     return status, sorted(line for line in lines if not line.startswith(("dangling", "notice")))

@@ -1,8 +1,8 @@
 """What a report or a bundle tells, written into a real repository.
 
-The objects stand before a reference moves. Then all that changes is locked, and what is found under the locks is
-compared with what was before. What commits the changes is a process that outlives the tool: one that is killed leaves border
-and references all as they were, or all changed.
+The objects stand before a reference moves. Then all that changes is locked, and what is found under the
+locks is compared with what was before. What commits the changes is a process that outlives the tool: one
+that is killed leaves border and references all as they were, or all changed.
 """
 
 from collections.abc import Callable, Sequence
@@ -23,6 +23,7 @@ from bagjulen_tools.repository.moves import (
     refuse_changed_border,
 )
 from bagjulen_tools.repository.transaction import BorderChange, changes_of
+from bagjulen_tools.signals import held_signals
 from bagjulen_tools.trouble import BAD_INPUT, CHANGED, GIT_REFUSED, Trouble
 
 # The committer of an engine's reflog lines.
@@ -31,10 +32,11 @@ SCENES_COMMITTER = {"GIT_COMMITTER_NAME": "fetch", "GIT_COMMITTER_EMAIL": "fetch
 
 
 def apply(repository, scene, report, committer=None, reached=lambda step: None):
-    """Writes what a report tells of a scene, and answers how many objects were stored and how many references moved.
+    """Writes what a report tells of a scene, and answers how many objects were stored and how many
+    references moved.
 
-    `committer` has the environment that says who moves references, none for the caller's own. `reached` is told each
-    step that writes, before and after it.
+    `committer` has the environment that says who moves references, none for the caller's own. `reached` is
+    told each step that writes, before and after it.
     """
     clear(repository)
     moves = moves_of(scene, report, repository.references())
@@ -49,7 +51,8 @@ def apply(repository, scene, report, committer=None, reached=lambda step: None):
 
 def apply_bundle(repository: Repository, bundle: Bundle, reached: Callable[[str], None] = lambda step: None,
                  is_forced: bool = False) -> tuple[int, int]:
-    """Writes a bundle, and answers how many objects were stored and how many references moved. `reached` as for `apply`.
+    """Writes a bundle, and answers how many objects were stored and how many references moved. `reached` as
+    for `apply`.
 
     Where it is forced, references that stand otherwise move, but not what a work tree has checked out.
     """
@@ -77,8 +80,8 @@ def _refuse_checked_out(repository: Repository, moves: Sequence[Move]) -> None:
 
 
 def _both_borders(repository, bundle):
-    """The border as it stands and with that of the bundle, or None where that stands already. Refused where one cuts off a
-    history that the other side has.
+    """The border as it stands and with that of the bundle, or None where that stands already. Refused where
+    one cuts off a history that the other side has.
     """
     standing = set(repository.border())
     for digits in sorted({each.id for each in bundle.objects} & standing - set(bundle.border)):
@@ -94,10 +97,13 @@ def _both_borders(repository, bundle):
 def _write(repository, objects, border, moves, committer, reached):
     """Stores objects, and then moves the border, where it is one of old and new ids, and references."""
     with ExitStack() as stack:
-        changes = [] if border is None else [stack.enter_context(closing(BorderChange(repository, *border)))]
+        with held_signals():
+            first = [] if border is None else [BorderChange(repository, *border)]
+            changes = [stack.enter_context(closing(each)) for each in first]
         _step(reached, "objects", lambda: store(repository, objects, changes[0].file if changes else None))
-        for each in changes_of(repository, moves, committer):
-            changes.append(stack.enter_context(closing(each)))
+        with held_signals():
+            for each in changes_of(repository, moves, committer):
+                changes.append(stack.enter_context(closing(each)))
         try:
             for each in changes:
                 _step(reached, f"prepare {each.name}", each.prepare)
@@ -113,8 +119,8 @@ def _step(reached, name, work):
 
 
 def _commit(changes, has_begun, reached):
-    """Commits changes. Where one is refused, those before it are undone, if all of them can be and no reference has moved:
-    Git moves those of a transaction one after the other, and may be stopped between.
+    """Commits changes. Where one is refused, those before it are undone, if all of them can be and no
+    reference has moved: Git moves those of a transaction one after the other, and may be stopped between.
     """
     committed = []
     try:

@@ -28,8 +28,8 @@ UNEXPLAINED = "UNEXPLAINED"
 
 @dataclass
 class Findings:
-    """What is found: links to what isn't there, objects that aren't there, references that lead to no object, and objects
-    that no reference reaches.
+    """What is found: links to what isn't there, objects that aren't there, references that lead to no
+    object, and objects that no reference reaches.
     """
 
     links: set[tuple[str, str]] = field(default_factory=set)
@@ -44,17 +44,20 @@ class Findings:
 
 
 def read_state(repository: Repository) -> tuple[Scene, dict[str, str]]:
-    """The repository as a scene: references as their files say them, border, and the objects that can be read; and the ids
-    of those that can't, with Git's words.
+    """The repository as a scene: references as their files say them, border, and the objects that can be
+    read; and the ids of those that can't, with Git's words.
     """
     with ObjectReader(repository) as reader:
-        state = Scene(hash_name=repository.hash_name(), git_dir=repository.git_dir, references=repository.reference_files(),
-                      border=repository.border(), objects=list(reader.all()))
+        state = Scene(hash_name=repository.hash_name(), git_dir=repository.git_dir,
+                      references=repository.reference_files(), border=repository.border(),
+                      objects=list(reader.all()))
         return state, reader.damaged
 
 
 def laid_out(state, folder):
-    """A bare repository of this state and nothing else: logs, an index and work trees would be beginnings for Git, too."""
+    """A bare repository of this state and nothing else: logs, an index and work trees would be beginnings
+    for Git, too.
+    """
     path = os.path.join(folder, "copy.git")
     git(["init", "-q", "--bare", f"--object-format={state.hash_name}", path])
     copy = Repository(path)

@@ -26,7 +26,8 @@ def environment(more: Mapping[str, str]) -> dict[str, str]:
     return {**kept, **OWN_ENVIRONMENT, **more}
 
 
-def run_git(words: Sequence[str], given: bytes = b"", more: Mapping[str, str] | None = None) -> tuple[int, bytes, str]:
+def run_git(words: Sequence[str], given: bytes = b"",
+            more: Mapping[str, str] | None = None) -> tuple[int, bytes, str]:
     """Runs Git. Answers its status, what it wrote, and its messages."""
     try:
         ended = run_program(["git", *words], given, environment(more or {}))
@@ -54,12 +55,13 @@ def why(messages: str) -> str:
 
 
 class Repository:
-    """A repository on this machine. Of a path inside its work tree, Git runs at the top: in a folder below `git index-pack`
-    would put its pack there.
+    """A repository on this machine. Of a path inside its work tree, Git runs at the top: in a folder below
+    `git index-pack` would put its pack there.
     """
 
     def __init__(self, path: str) -> None:
-        status, out, messages = run_git(["-C", path, "rev-parse", "--absolute-git-dir", "--git-common-dir", "--show-cdup"])
+        asked = ["--absolute-git-dir", "--git-common-dir", "--show-cdup"]
+        status, out, messages = run_git(["-C", path, "rev-parse", *asked])
         if status != 0:
             for folder in (os.path.join(path, ".git"), path):
                 refuse_ref_storage(path, folder)
@@ -111,7 +113,9 @@ class Repository:
         return direct | self._symbolic_references(direct) | head
 
     def reference_files(self) -> dict[str, str]:
-        """Each reference as its file says it, also those that lead nowhere. It is refused where one can't be read."""
+        """Each reference as its file says it, also those that lead nowhere. It is refused where one can't be
+        read.
+        """
         found = read_references(self.git_dir, self.common_dir, self.hash_name())
         for name, trouble in found.unread.items():
             raise Trouble(BAD_INPUT, f"the reference {name} can't be read: {trouble}")
@@ -124,7 +128,9 @@ class Repository:
         return {name: digits for digits, symbolic, name in lines if not symbolic}
 
     def _symbolic_references(self, direct):
-        """The references under `refs/` that stand for a name, also those that lead nowhere, which Git doesn't list."""
+        """The references under `refs/` that stand for a name, also those that lead nowhere, which Git
+        doesn't list.
+        """
         found = {}
         for folder, _, files in os.walk(os.path.join(self.common_dir, "refs")):
             front = os.path.relpath(folder, self.common_dir)
@@ -164,7 +170,8 @@ class Repository:
         count = DIGITS[self.hash_name()] if lines else 0
         for line in lines:
             if re.match(rb"[0-9a-fA-F]{%d}" % count, line) is None:
-                raise Trouble(BAD_INPUT, f"{self.shallow_file()} has a line that is no id: {decoded_text(line)[:100]!r}")
+                told = decoded_text(line)[:100]
+                raise Trouble(BAD_INPUT, f"{self.shallow_file()} has a line that is no id: {told!r}")
         return sorted({line[:count].decode("ascii").lower() for line in lines})
 
     def reached_commits(self):
@@ -190,7 +197,9 @@ class Repository:
         return objects_in(self.git("cat-file", "--batch-all-objects", "--unordered", "--batch"))
 
     def stored_ids(self):
-        """The ids of all objects. The empty tree, which Git knows by itself, is there only where it is stored."""
+        """The ids of all objects. The empty tree, which Git knows by itself, is there only where it is
+        stored.
+        """
         out = self.git("cat-file", "--batch-all-objects", "--unordered", "--batch-check=%(objectname)")
         return set(out.decode("ascii").split())
 

@@ -9,7 +9,8 @@ from bagjulen_tools.trouble import CHANGED, GIT_REFUSED, Trouble
 
 @dataclass(frozen=True)
 class Move:
-    """A reference that moves: what it was before, None for nothing, what it will be, and its log line, or None.
+    """A reference that moves: what it was before, None for nothing, what it will be, and its log line, or
+    None.
 
     Values are as in a scene: an id in hex, or `@` and a name.
     """
@@ -33,7 +34,8 @@ class HeadMove(Move):
 
 
 def moves_of(scene, report, standing):
-    """The moves of a report in a repository where these references stand, without those that were made already.
+    """The moves of a report in a repository where these references stand, without those that were made
+    already.
 
     References that the report leaves as they were in the scene stay, wherever they stand.
     """
@@ -46,8 +48,8 @@ def moves_of(scene, report, standing):
 
 
 def moves_to(references: dict[str, str], standing: dict[str, str], is_forced: bool = False) -> list[Move]:
-    """The moves that make these references stand, without those that stand already, where no other has one of the names,
-    unless it is forced. A `HEAD` that leads to an absent name is none.
+    """The moves that make these references stand, without those that stand already, where no other has one
+    of the names, unless it is forced. A `HEAD` that leads to an absent name is none.
     """
     others = {name: new for name, new in references.items() if standing.get(name) != new}
     moves = [_move_to(name, new, standing, is_forced) for name, new in others.items()]

@@ -20,8 +20,8 @@ OTHER_BYTES = "its bytes are others than its id says"
 
 
 class ObjectReader:
-    """One `git cat-file --batch`, which is started anew where an object has it fail. `damaged` has the ids of objects that
-    are stored and can't be read, with Git's words.
+    """One `git cat-file --batch`, which is started anew where an object has it fail. `damaged` has the ids
+    of objects that are stored and can't be read, with Git's words.
     """
 
     def __init__(self, repository: Repository) -> None:
@@ -34,7 +34,8 @@ class ObjectReader:
     def __enter__(self) -> "ObjectReader":
         return self
 
-    def __exit__(self, kind: type[BaseException] | None, error: BaseException | None, trace: TracebackType | None) -> None:
+    def __exit__(self, kind: type[BaseException] | None, error: BaseException | None,
+                 trace: TracebackType | None) -> None:
         self._end()
         close_all(self._messages)
 
@@ -68,7 +69,9 @@ class ObjectReader:
             rest = [digits for digits in links if digits not in known]
 
     def _first_of(self, ids: list[str]) -> list[Object]:
-        """These objects up to the first that can't be read. A damaged one may have other bytes than its length tells."""
+        """These objects up to the first that can't be read. A damaged one may have other bytes than its
+        length tells.
+        """
         text, found, place = self._answer(ids), [], 0
         for digits in ids:
             end = text.find(b"\n", place)
@@ -77,7 +80,9 @@ class ObjectReader:
                 break
             place = end + 1 + int(words[2]) + 1
             data = text[end + 1 : place - 1]
-            if place > len(text) or words[1] not in KINDS or object_id(self._hash_name, words[1], data) != digits:
+            if place > len(text) or words[1] not in KINDS:
+                break
+            if object_id(self._hash_name, words[1], data) != digits:
                 break
             found.append(Object(digits, words[1], data))
         return found

@@ -11,10 +11,11 @@ from bagjulen_tools.trouble import BAD_INPUT, Trouble
 def reached_state(repository: Repository) -> Scene:
     """References as their files say them, border, and the objects that direct references reach.
 
-    An object that can't be read, or that breaks the grammar of its kind, is refused by its id where it is reached.
+    An object that can't be read, or that breaks the grammar of its kind, is refused by its id where it is
+    reached.
     """
-    state = Scene(hash_name=repository.hash_name(), git_dir=repository.git_dir, references=repository.reference_files(),
-                  border=repository.border())
+    state = Scene(hash_name=repository.hash_name(), git_dir=repository.git_dir,
+                  references=repository.reference_files(), border=repository.border())
     border = set(state.border)
 
     def linked(each: Object) -> list[str]:

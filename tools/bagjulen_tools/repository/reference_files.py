@@ -1,4 +1,4 @@
-"""References as Git's files have them: loose ones, packed ones, and `HEAD`; and what of them can't be read."""
+"""References as Git's files have them: loose, packed, and `HEAD`; and what of them can't be read."""
 
 import os
 import re
@@ -35,7 +35,9 @@ class ReferenceFiles:
 
 
 def read_references(git_dir: str, common_dir: str, hash_name: str) -> ReferenceFiles:
-    """What stands in the files of a repository, or of one of its work trees. Loose ones count before packed ones."""
+    """What stands in the files of a repository, or of one of its work trees. Loose ones count before packed
+    ones.
+    """
     found = ReferenceFiles()
     for name, target in _packed(os.path.join(common_dir, "packed-refs"), DIGITS[hash_name]):
         found.put(name, target)
@@ -51,7 +53,9 @@ def read_references(git_dir: str, common_dir: str, hash_name: str) -> ReferenceF
 
 
 def _packed(path: str, count: int) -> Iterator[tuple[str, str]]:
-    """Names and targets of packed references. Of a line that can't be read what stands at the place of the name."""
+    """Names and targets of packed references. Of a line that can't be read what stands at the place of the
+    name.
+    """
     try:
         with open(path, "rb") as file:
             lines = file.read().split(b"\n")
@@ -67,7 +71,9 @@ def _packed(path: str, count: int) -> Iterator[tuple[str, str]]:
 
 
 def _loose_names(folder: str, front: str, skipped: tuple[str, ...]) -> Iterator[str]:
-    """The names of the files below a folder, but those that Git passes over: locks, and what begins with a dot."""
+    """The names of the files below a folder, but those that Git passes over: locks, and what begins with a
+    dot.
+    """
     try:
         entries = sorted(os.listdir(os.path.join(folder, front)))
     except FileNotFoundError:
