@@ -156,12 +156,13 @@ class Faults(unittest.TestCase):
     def test_the_least_scene(self):
         self.assertEqual(minimised(b"0000abcdefgh" * 9, lambda scene: b"c" in scene and scene.count(b"f") > 1), b"fcf")
         self.assertEqual(minimised(b"abc", lambda scene: True), b"")
+        self.assertEqual(minimised(b"abcd", lambda scene: b"a" in scene, 3), b"ab")
 
 
 class Fuzzed(unittest.TestCase):
     def test_a_fault_is_saved(self):
         with tempfile.TemporaryDirectory() as folder:
-            words = ("6", "1", *DOUBLE, "--jobs", "2", "-o", folder)
+            words = ("6", "1", *DOUBLE, "--jobs", "2", "--tries", "20", "-o", folder)
             status, told, _ = run("measure/fuzz", *words)
             saved = os.listdir(folder)
         self.assertEqual(status, 1)

@@ -23,7 +23,7 @@ from collections import Counter
 from multiprocessing import Pool
 
 from bagjulen_tools.trials.outcomes import OUTCOMES
-from bagjulen_tools.trials.runner import MEBIBYTE, Runner, minimised
+from bagjulen_tools.trials.runner import MEBIBYTE, MOST_TRIES, Runner, minimised
 from bagjulen_tools.trials.trial import TRIALS
 from bagjulen_tools.trouble import BAD_WORDS, DIFFERENT, DONE, ENGINE_FAILED, ToolParser, Trouble, write_file
 
@@ -41,6 +41,7 @@ def words(given):
     parser.add_argument("--jobs", metavar="N", type=int, default=os.cpu_count(), help="at once (one a processor)")
     parser.add_argument("--seconds", metavar="N", type=float, default=20, help="time for a run (20)")
     parser.add_argument("--memory", metavar="MIB", type=int, default=64, help="memory for a run (64)")
+    parser.add_argument("--tries", metavar="N", type=int, default=MOST_TRIES, help="so many runs at the most to make an input shorter")
     parser.add_argument("-o", dest="output", metavar="FOLDER", default=".", help="where inputs are saved (here)")
     parser.add_argument("--engine", metavar="PROGRAM", help="the built program, or that of crates/serve_rows")
     asked = parser.parse_args(given)
@@ -85,7 +86,8 @@ class Job:
             ended, fault = self.ended(given, words)
             found.add(ended)
             if fault is not None:
-                found.faults.append((number, fault, minimised(given, lambda less: self.ended(less, words)[1] == fault), words))
+                shorter = minimised(given, lambda less: self.ended(less, words)[1] == fault, self.asked.tries)
+                found.faults.append((number, fault, shorter, words))
         return found
 
     def ended(self, given, words):

@@ -3,12 +3,14 @@
 import os
 import resource
 import signal
+from collections.abc import Callable
 from dataclasses import dataclass
 
 from bagjulen_tools.trials.outcomes import MALFORMED, OUTCOMES
 from bagjulen_tools.trouble import ENGINE_FAILED, Trouble
 
 MEBIBYTE = 1 << 20
+MOST_TRIES = 100_000
 NO_MEMORY = 5
 # A race or a mirror has eight threads at most, each with a stack of so many bytes.
 STACKS = {"race": 8 * 8 * MEBIBYTE, "mirror": 8 * 8 * MEBIBYTE}
@@ -102,14 +104,14 @@ class Runner:
         return ProgramExit(os.waitstatus_to_exitcode(status), written, seconds, used.ru_maxrss * 1024, self.is_late, self.asked)
 
 
-def minimised(scene, fails):
-    """A scene that fails too and has no part, of those tried, that could go."""
-    size = len(scene)
+def minimised(scene: bytes, fails: Callable[[bytes], bool], most: int = MOST_TRIES) -> bytes:
+    """A scene that fails too and has no part, of those tried, that could go. So many are tried at the most."""
+    size, tries = len(scene), 0
     while size:
         size = min(size, len(scene))
         begin = 0
-        while begin < len(scene):
-            shorter = scene[:begin] + scene[begin + size :]
+        while begin < len(scene) and tries < most:
+            shorter, tries = scene[:begin] + scene[begin + size :], tries + 1
             if fails(shorter):
                 scene = shorter
             else:
