@@ -1,0 +1,5 @@
+pub mod Directory
+pub mod Disk
+pub mod Errors
+pub mod Reading
+pub mod Records

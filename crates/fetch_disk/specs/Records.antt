@@ -1,0 +1,78 @@
+-- The bytes of a journal, and the records that they stand for.
+use Rattle.std.specs.Prelude.{◌≡◌, ◌≢◌, ◌⊎◌, ◌<◌, ◌^◌, ℕ, List, [], ◌∷◌, ◌++◌, length, codes}
+use Rattle.std.specs.Int.{w64, to_be_bytes}
+use Rattle.fetch_base.specs.Hashing.{digest}
+use Rattle.fetch_base.specs.Id.{bytes_of}
+use Rattle.fetch_base.specs.declared.id.Kind.{Kind}
+use Rattle.fetch_disk.specs.declared.record.Record.{Record}
+
+-- what a journal begins with: its mark, and the version
+abbrev pub mark : List ℕ
+mark = codes "bagjulen"
+
+-- the mark, and the version that is known
+unfoldable pub front : List ℕ
+front = mark ++ 1 ∷ []
+
+-- what a record's digest is of: its kind, the length of its body in eight bytes, and the body
+unfoldable pub message : Record → List ℕ
+message e = e.kind ∷ (to_be_bytes w64 (length e.body) ++ e.body)
+
+-- what stands of a record behind its gate: the message, and its digest
+unfoldable pub payload : Kind → Record → List ℕ
+payload hash e = message e ++ bytes_of (digest hash (message e))
+
+-- records, each behind an open gate
+abbrev pub spelled : Kind → List Record → List ℕ
+spelled hash [] = []
+spelled hash (e ∷ es) = 1 ∷ (payload hash e ++ spelled hash es)
+
+-- a journal up to its first closed gate
+unfoldable pub opened : Kind → List Record → List ℕ
+opened hash es = front ++ spelled hash es
+
+-- the journal of these records: behind the last of them a closed gate
+abbrev pub journal_of : Kind → List Record → List ℕ
+journal_of hash es = opened hash es ++ 0 ∷ []
+
+-- The bytes stand for these records: behind them the gate isn't open, and what follows doesn't count.
+pub record Stands (hash : Kind) (bytes : List ℕ) (es : List Record) : Type 0 where
+  pub gate : ℕ
+  pub behind : List ℕ
+  pub shut : gate ≢ 1
+  pub whole : bytes ≡ opened hash es ++ gate ∷ behind
+  pub small : length (opened hash es) < 2 ^ 64
+
+-- ---- what isn't a journal
+
+-- The bytes begin with the mark and a version.
+abbrev pub HasVersion : List ℕ → ℕ → Type 0
+HasVersion bytes version = (rest : List ℕ) × (bytes ≡ mark ++ version ∷ rest)
+
+-- Here stands neither a closed gate nor a whole record behind an open one.
+pub record BeginsNothing (hash : Kind) (bytes : List ℕ) : Type 0 where
+  pub no_gate : (gate : ℕ) (behind : List ℕ) → bytes ≡ gate ∷ behind → gate ≡ 1
+  pub no_record : (e : Record) (behind : List ℕ) → length e.body < 2 ^ 64 → bytes ≡ 1 ∷ (payload hash e ++ behind) → ⊥
+
+-- The bytes are damaged at this place: up to there they are whole records, and there nothing begins.
+pub record IsDamagedAt (hash : Kind) (bytes : List ℕ) (place : ℕ) : Type 0 where
+  pub before : List Record
+  pub rest : List ℕ
+  pub whole : bytes ≡ opened hash before ++ rest
+  pub stands : place ≡ length (opened hash before)
+  pub small : length (opened hash before) < 2 ^ 64
+  pub nothing : BeginsNothing hash rest
+
+-- ---- what a step makes of the records
+
+-- the same records
+abbrev pub SameRecords : Kind → List ℕ → List ℕ → Type 0
+SameRecords hash old new = (es : List Record) → Stands hash old es → Stands hash new es
+
+-- the same records, and this one behind them
+abbrev pub Adds : Kind → Record → List ℕ → List ℕ → Type 0
+Adds hash e old new = (es : List Record) → Stands hash old es → Stands hash new (es ++ e ∷ [])
+
+-- the same records, or these and one more
+abbrev pub MayAdd : Kind → Record → List ℕ → List ℕ → Type 0
+MayAdd hash e old new = (es : List Record) → Stands hash old es → Stands hash new es ⊎ Stands hash new (es ++ e ∷ [])

@@ -1,0 +1,19 @@
+//! A disk that may crash, and a journal of records on it that a crash leaves whole.
+#![tactic(auto)]
+
+mod device;
+mod disk;
+mod disk_error;
+mod journal_error;
+mod packs;
+mod reading;
+mod record;
+mod volume;
+
+pub use device::Device;
+pub use disk::Disk;
+pub use disk_error::DiskError;
+pub use journal_error::JournalError;
+pub use packs::Packs;
+pub use record::Record;
+pub use volume::Volume;
