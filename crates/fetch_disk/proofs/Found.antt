@@ -86,14 +86,14 @@ message_of (b ∷ m) long = ap (λ (l : List ℕ). b ∷ l) (sym (take-append-dr
 abbrev pub AreBytes : List ℕ → Type 0
 AreBytes bytes = (i : ℕ) → get_or bytes i 0 < 256
 
-pub AreBytes-front : (front rest : List ℕ) → AreBytes (front ++ rest) → AreBytes front
+pub AreBytes-front : (begin rest : List ℕ) → AreBytes (begin ++ rest) → AreBytes begin
 AreBytes-front [] rest h i = omega arith
-AreBytes-front (b ∷ front) rest h zero = h zero
-AreBytes-front (b ∷ front) rest h (suc i) = AreBytes-front front rest (λ j. h (suc j)) i
+AreBytes-front (b ∷ begin) rest h zero = h zero
+AreBytes-front (b ∷ begin) rest h (suc i) = AreBytes-front begin rest (λ j. h (suc j)) i
 
-pub AreBytes-back : (front rest : List ℕ) → AreBytes (front ++ rest) → AreBytes rest
+pub AreBytes-back : (begin rest : List ℕ) → AreBytes (begin ++ rest) → AreBytes rest
 AreBytes-back [] rest h = h
-AreBytes-back (b ∷ front) rest h = AreBytes-back front rest (λ i. h (suc i))
+AreBytes-back (b ∷ begin) rest h = AreBytes-back begin rest (λ i. h (suc i))
 
 bound : (bytes : List ℕ) → AreBytes bytes → from_be_bytes w64 bytes < 2 ^ 64
 bound bytes fits = omega (arith, fits 0, fits 1, fits 2, fits 3, fits 4, fits 5, fits 6, fits 7)

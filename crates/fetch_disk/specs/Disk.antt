@@ -1,5 +1,5 @@
 -- What the calls of a disk do to a directory, and what a crash may make of it.
-use Rattle.std.specs.Prelude.{◌≡◌, ◌⊎◌, ℕ, ◌+◌, ◌≤◌, max, List, ◌++◌, length, take, drop, Some, Result, IsErrOf}
+use Rattle.std.specs.Prelude.{◌≡◌, ◌⊎◌, ℕ, ◌+◌, ◌≤◌, min, max, List, ◌++◌, length, take, drop, Some, Result, IsErrOf}
 use Rattle.std.specs.FinMap as map
 use Rattle.fetch_base.specs.Faults.{Faults, Rose, Counts}
 use Rattle.fetch_base.specs.declared.id.ObjectId.{ObjectId}
@@ -28,9 +28,9 @@ pub record Torn (at n : ℕ) (old new : List ℕ) : Type 0 where
   pub least : length old ≤ length new
   pub most : length new ≤ max (length old) (at + n)
 
--- A cut to n bytes, done in part: some front of the old bytes that has at least n.
+-- A cut to n bytes, done in part: some front of the old bytes that has at least n, or all of them.
 pub record Shortened (n : ℕ) (old new : List ℕ) : Type 0 where
-  pub least : n ≤ length new
+  pub least : min n (length old) ≤ length new
   pub front : take (length new) old ≡ new
 
 -- It is as it was, or it is this.

@@ -1,9 +1,11 @@
 -- The bytes of a journal, and the records that they stand for.
-use Rattle.std.specs.Prelude.{◌≡◌, ◌≢◌, ◌⊎◌, ◌<◌, ◌^◌, ℕ, List, [], ◌∷◌, ◌++◌, length, codes}
+use Rattle.std.specs.Prelude.{◌≡◌, ◌≢◌, ◌⊎◌, ◌<◌, ◌^◌, ⊤, ℕ, Bool, false, not, ◌==◌, List, [], ◌∷◌, ◌++◌, length, codes}
 use Rattle.std.specs.Int.{w64, to_be_bytes}
 use Rattle.fetch_base.specs.Hashing.{digest}
 use Rattle.fetch_base.specs.Id.{bytes_of}
 use Rattle.fetch_base.specs.declared.id.Kind.{Kind}
+use Rattle.fetch_disk.specs.declared.journal_error.JournalError.{JournalError}
+use Rattle.fetch_disk.specs.declared.journal_error.JournalError.TheVariants as errors
 use Rattle.fetch_disk.specs.declared.record.Record.{Record}
 
 -- what a journal begins with: its mark, and the version
@@ -76,3 +78,35 @@ Adds hash e old new = (es : List Record) → Stands hash old es → Stands hash 
 -- the same records, or these and one more
 abbrev pub MayAdd : Kind → Record → List ℕ → List ℕ → Type 0
 MayAdd hash e old new = (es : List Record) → Stands hash old es → Stands hash new es ⊎ Stands hash new (es ++ e ∷ [])
+
+-- ---- reading
+
+-- a gate that isn't open
+abbrev pub is_shut : List ℕ → Bool
+is_shut [] = false
+is_shut (gate ∷ behind) = not (gate == 1)
+
+-- the bytes stand for these records, and their closed gate is there
+pub record IsRead (hash : Kind) (bytes : List ℕ) (es : List Record) (end : ℕ) : Type 0 where
+  pub stands : Stands hash bytes es
+  pub gate : end ≡ length (opened hash es)
+
+-- why these bytes aren't those of a journal of this version
+abbrev pub IsForeign : List ℕ → JournalError → Type 0
+IsForeign bytes errors.NotARepository = (version : ℕ) → HasVersion bytes version → ⊥
+IsForeign bytes (errors.Version found) = HasVersion bytes found × (found ≢ 1)
+IsForeign bytes (errors.Damaged place) = ⊥
+IsForeign bytes errors.Failed = ⊥
+IsForeign bytes errors.Full = ⊥
+IsForeign bytes errors.Disk = ⊥
+IsForeign bytes errors.NoMemory = ⊥
+
+-- why these bytes aren't read
+abbrev pub IsUnread : Kind → List ℕ → JournalError → Type 0
+IsUnread hash bytes errors.NotARepository = IsForeign bytes errors.NotARepository
+IsUnread hash bytes (errors.Version found) = IsForeign bytes (errors.Version found)
+IsUnread hash bytes (errors.Damaged place) = IsDamagedAt hash bytes place
+IsUnread hash bytes errors.Failed = ⊥
+IsUnread hash bytes errors.Full = ⊥
+IsUnread hash bytes errors.Disk = ⊥
+IsUnread hash bytes errors.NoMemory = ⊤

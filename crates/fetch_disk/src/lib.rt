@@ -8,6 +8,7 @@ mod journal_error;
 mod packs;
 mod reading;
 mod record;
+mod steps;
 mod volume;
 
 pub use device::Device;
@@ -15,5 +16,6 @@ pub use disk::Disk;
 pub use disk_error::DiskError;
 pub use journal_error::JournalError;
 pub use packs::Packs;
+pub use reading::{Recovered, read_records};
 pub use record::Record;
 pub use volume::Volume;
