@@ -1,3 +1,5 @@
+mod Crash
 mod Found
 mod Moments
 mod Spelled
+mod Unique

@@ -1,5 +1,6 @@
 pub mod Directory
 pub mod Disk
 pub mod Errors
+pub mod Journal
 pub mod Reading
 pub mod Records

@@ -110,3 +110,13 @@ IsUnread hash bytes errors.Failed = ⊥
 IsUnread hash bytes errors.Full = ⊥
 IsUnread hash bytes errors.Disk = ⊥
 IsUnread hash bytes errors.NoMemory = ⊤
+
+-- The bytes are these records and a closed gate at this place, and nothing is behind it.
+pub record IsAtRest (hash : Kind) (bytes : List ℕ) (es : List Record) (end : ℕ) : Type 0 where
+  pub stands : Stands hash bytes es
+  pub nothing_behind : stands.behind ≡ []
+  pub place : end ≡ length (opened hash es)
+
+-- It stays, or it stands for the records that are read of these bytes.
+abbrev pub StaysOrReads : Kind → List ℕ → List ℕ → List ℕ → Type 0
+StaysOrReads hash read old new = (new ≡ old) ⊎ SameRecords hash read new

@@ -4,16 +4,19 @@
 mod device;
 mod disk;
 mod disk_error;
+mod journal;
 mod journal_error;
 mod packs;
 mod reading;
 mod record;
+mod spelling;
 mod steps;
 mod volume;
 
 pub use device::Device;
 pub use disk::Disk;
 pub use disk_error::DiskError;
+pub use journal::Journal;
 pub use journal_error::JournalError;
 pub use packs::Packs;
 pub use reading::{Recovered, read_records};
