@@ -12,6 +12,7 @@ use Rattle.std.proofs.lemmas.Slice.Eq.{bytes_eq-Decides}
 use Rattle.fetch_base.specs.Hashing.{digest}
 use Rattle.fetch_base.specs.Id.{bytes_of, byte_len}
 use Rattle.fetch_base.specs.declared.id.Kind.{Kind}
+use Rattle.fetch_base.specs.declared.id.Kind.TheVariants as kinds
 use Rattle.fetch_base.proofs.Digests.{length-digest}
 use Rattle.fetch_disk.specs.declared.record.Record.{Record}
 use Rattle.fetch_disk.specs.Reading.{Frame, cut_at, sized, frame, checked, first}
@@ -168,3 +169,7 @@ again hash e rest small =
     ap (option_and_then (checked hash)) framed
     ∙ ap (λ (b : Bool). cond b (Some (record { kind = slice_index m 0; body = drop 9 m }, rest)) None) right
     ∙ ap (λ (r : Record). Some (r, rest)) p.1
+
+pub byte_len-most : (hash : Kind) → byte_len hash ≤ 32
+byte_len-most kinds.Sha1 = omega arith
+byte_len-most kinds.Sha256 = omega arith
