@@ -1,6 +1,7 @@
 mod Appending
 mod Crash
 mod Found
+mod Fronts
 mod Moments
 mod Spelled
 mod Unique

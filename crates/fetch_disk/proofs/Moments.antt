@@ -1,8 +1,11 @@
 -- How spans of time are joined, and what one call leaves.
 use Rattle.std.proofs.Common.{◌≡◌, ◌⊎◌, inl, inr, ⊎_elim, ℕ, List, length, take, drop, refl, ◌+◌, ◌≤◌, arith}
 use Rattle.std.proofs.lemmas.List.{take_all}
+use Rattle.std.specs.Prelude.{Result, IsErrOf}
+use Rattle.fetch_base.specs.Faults.{Faults, Counts, Counts-then, Rose-earlier}
+use Rattle.fetch_disk.specs.declared.disk_error.DiskError.{DiskError}
 use Rattle.fetch_disk.specs.Directory.{Directory, InJournal}
-use Rattle.fetch_disk.specs.Disk.{Torn, Shortened, IsOldOr, After, Follows, NoOther, Elapses, LeavesOnly}
+use Rattle.fetch_disk.specs.Disk.{Torn, Shortened, IsOldOr, After, Follows, NoOther, Elapses, LeavesOnly, HasCause}
 
 
 module _ {D : Type 0} (moment : D → ℕ) (left_since : D → ℕ → Directory → Type 0) where
@@ -29,6 +32,10 @@ module _ {D : Type 0} (moment : D → ℕ) (left_since : D → ℕ → Directory
     before = λ t l le left. ⊎_elim (λ h. inl h) (λ h. inr (now l h)) (time.either t l le left);
   }
 
+-- no time passes
+pub rests : {D : Type 0} (moment : D → ℕ) (left_since : D → ℕ → Directory → Type 0) (P : Directory → Type 0) (disk : D) → ((l : Directory) → left_since disk (moment disk) l → P l) → LeavesOnly moment left_since disk disk P
+rests moment left_since P disk only = record { later = omega arith; each = only; before = λ t l le left. inl left }
+
 -- ---- nothing done is a step of each call
 
 pub torn_same : (at n : ℕ) (bytes : List ℕ) → Torn at n bytes bytes
@@ -53,3 +60,13 @@ module _ {D : Type 0} (moment : D → ℕ) (left_since : D → ℕ → Directory
       let P = After (InJournal Step) (may_leave old) in
       joined moment left_since old mid new P (changed old mid Step same time crash)
       (called moment left_since mid new (may_leave mid) (may_leave new) P (only mid) again crash (λ l is. crash l (no_other l is)))
+
+-- ---- faults
+
+-- a call behind others
+pub cause_after : {T U : Type 0} (a b d : Faults) (r : Result T DiskError) (s : Result U DiskError) → Counts a b → HasCause b d r → ((e : DiskError) → IsErrOf s e → IsErrOf r e) → HasCause a d s
+cause_after a b d r s before now same = record {
+  counts = Counts-then a b d before now.counts;
+  failed = λ h. Rose-earlier a b d before (now.failed (same _ h));
+  full = λ h. Rose-earlier a b d before (now.full (same _ h));
+}

@@ -19,6 +19,10 @@ pub record IsPiece (bytes : List ℕ) (count : ℕ) (buffer : List ℕ) : Type 0
   pub within : count ≤ length bytes
   pub same : take count buffer ≡ take count bytes
 
+-- some bytes at the front of others
+abbrev pub IsFront : List ℕ → List ℕ → Type 0
+IsFront begin bytes = (rest : List ℕ) × (bytes ≡ begin ++ rest)
+
 -- ---- what a crash makes of a call that isn't on the disk yet
 
 -- A write of n bytes at a place, cut short anywhere: whatever in its range and past the old end, and the old bytes elsewhere.

@@ -12,6 +12,7 @@ mod record;
 mod spelling;
 mod steps;
 mod volume;
+mod whole_file;
 
 pub use device::Device;
 pub use disk::Disk;
