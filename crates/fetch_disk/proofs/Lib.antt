@@ -3,5 +3,6 @@ mod Crash
 mod Found
 mod Fronts
 mod Moments
+mod Recovering
 mod Spelled
 mod Unique
