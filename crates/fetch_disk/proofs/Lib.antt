@@ -6,3 +6,4 @@ mod Moments
 mod Recovering
 mod Spelled
 mod Unique
+mod Whole

@@ -1,8 +1,8 @@
 -- Records behind one another, and what bytes stand for that are read to their end.
-use Rattle.std.proofs.Common.{◌≡◌, ◌≢◌, inl, inr, ℕ, zero, suc, ◌+◌, ◌^◌, ◌<◌, ◌≤◌, Bool, true, false, not, List, [], ◌∷◌, ◌++◌, length, Some, None, refl, sym, ap, subst, ◌∙◌, append_assoc, arith, length-append}
+use Rattle.std.proofs.Common.{◌≡◌, ◌≢◌, inl, inr, ℕ, zero, suc, ◌+◌, ◌^◌, ◌<◌, ◌≤◌, Bool, true, false, not, List, [], ◌∷◌, ◌++◌, length, get_or, take, Some, None, refl, sym, ap, subst, ◌∙◌, append_assoc, arith, length-append}
 use Rattle.std.specs.Prelude.{◌==◌}
 use Rattle.std.proofs.lemmas.Bool.Decides.{eqb_tells}
-use Rattle.std.proofs.lemmas.List.{append-nil}
+use Rattle.std.proofs.lemmas.List.{append-nil, take_more}
 use Rattle.fetch_base.specs.Id.{byte_len}
 use Rattle.fetch_base.specs.declared.id.Kind.{Kind}
 use Rattle.fetch_disk.specs.declared.record.Record.{Record}
@@ -88,3 +88,14 @@ damaged hash bytes rest es place is small there none open_ =
       small = omega (arith, ap length is);
       nothing = record { no_gate = λ gate behind h. no_gate rest gate behind open_ h; no_record = λ e behind h k. no_record hash rest e behind none h k };
     }
+
+-- ---- spelling
+
+pub opened-empty : (hash : Kind) → front ≡ opened hash []
+unfolding opened
+opened-empty hash = sym (append-nil front)
+
+pub opened-more : (hash : Kind) (es : List Record) (i : ℕ) (e : Record) → i < length es → e ≡ get_or es i e → opened hash (take i es) ++ 1 ∷ payload hash e ≡ opened hash (take (i + 1) es)
+opened-more hash es i e within is =
+    let one : take (i + 1) es ≡ take i es ++ e ∷ [] = take_more es i e within ∙ ap (λ (x : Record). take i es ++ x ∷ []) (sym is) in
+    sym (opened-push hash (take i es) e) ∙ ap (opened hash) (sym one)

@@ -3,14 +3,16 @@
 ghost use Rattle.std.specs.Prelude.{◌≡◌, ◌⊎◌, ◌≤◌, ◌^◌, length, OnOk, OnErr, IfErr};
 ghost use Rattle.fetch_base.specs.Faults.{Counts};
 ghost use Rattle.fetch_disk.specs.Directory.{InJournal};
-ghost use Rattle.fetch_disk.specs.Disk.{After, LeavesOnly};
+ghost use Rattle.fetch_disk.specs.Disk.{IsOldOr, After, LeavesOnly};
 ghost use Rattle.fetch_disk.specs.Journal.{IsSettled, IsSound, IsUnchangedOrFailed, WriteCause};
-ghost use Rattle.fetch_disk.specs.Records.{Adds, MayAdd};
+ghost use Rattle.fetch_disk.specs.Records.{journal_of, Adds, MayAdd};
 
 use crate::device::Device;
 use crate::journal_error::JournalError;
+use crate::record::Record;
 use crate::spelling::spell;
 use crate::steps::write_durable;
+use crate::writing::write_whole;
 use fetch_base::Kind;
 use std::alloc::Global;
 
@@ -59,6 +61,30 @@ impl<D: Device> Journal<D> {
         write_durable(&mut self.disk, self.end + 1, &bytes)?;
         write_durable(&mut self.disk, self.end, &[1])?;
         self.end += bytes.len();
+        self.failed = false;
+        Ok(())
+    }
+
+    /// Puts the journal of these records in the place of this one: each crash leaves the old text or the new one, whole.
+    /// After an error the journal is as before, or it says that it failed, and has to be opened again.
+    pub fn replace(&mut self, alloc: Global, records: &[Record]) -> Result<(), JournalError>
+        requires { IsSound D.seen D.may_leave self.old }
+        ensures replaced { OnOk result (IsSettled D.seen D.may_leave self.new
+            × ((D.seen self.new.disk).journal ≡ journal_of self.old.hash records.now)) }
+        ensures any_moment { LeavesOnly D.moment D.left_since self.old.disk self.new.disk
+            (After (InJournal (IsOldOr (λ _. journal_of self.old.hash records.now))) (D.may_leave self.old.disk)) }
+        ensures packs { OnOk result ((D.seen self.new.disk).packs ≡ (D.seen self.old.disk).packs) }
+        ensures sound { IsSound D.seen D.may_leave self.new }
+        ensures hash { self.new.hash ≡ self.old.hash }
+        ensures err { OnErr result (IsUnchangedOrFailed self.old self.new) }
+        ensures counts { Counts (D.faults self.old.disk) (D.faults self.new.disk) }
+        ensures cause { IfErr result (WriteCause self.old.failed ⊥ (D.faults self.old.disk) (D.faults self.new.disk)) }
+    {
+        if self.failed {
+            return Err(JournalError::Failed);
+        }
+        self.failed = true;
+        self.end = write_whole(alloc, self.hash, &mut self.disk, records)?;
         self.failed = false;
         Ok(())
     }
