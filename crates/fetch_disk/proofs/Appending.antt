@@ -1,15 +1,14 @@
 -- The spans of `append`, of a journal at rest.
-use Rattle.std.proofs.Common.{◌≡◌, ◌⊎◌, inl, inr, ℕ, ◌+◌, ◌^◌, ◌<◌, Bool, true, false, List, [], ◌∷◌, ◌++◌, length, refl, sym, ◌∙◌, ap, subst, arith, length-append}
+use Rattle.std.proofs.Common.{◌≡◌, inl, ℕ, ◌+◌, ◌^◌, ◌<◌, Bool, true, false, List, [], ◌∷◌, ◌++◌, length, refl, sym, ◌∙◌, ap, subst, arith}
 use Rattle.std.specs.Bool.{OnFalse}
 use Rattle.fetch_base.specs.Id.{byte_len}
 use Rattle.fetch_base.specs.declared.id.Kind.{Kind}
 use Rattle.fetch_disk.specs.Directory.{Directory, InJournal, in_journal}
 use Rattle.fetch_disk.specs.Disk.{overwritten, Torn, After, JournalIs, LeavesOnly, Follows}
-use Rattle.fetch_disk.specs.Records.{payload, opened, Stands, IsAtRest, Adds, MayAdd}
+use Rattle.fetch_disk.specs.Records.{payload, Stands, IsAtRest, MayAdd}
 use Rattle.fetch_disk.specs.declared.record.Record.{Record}
-use Rattle.fetch_disk.proofs.Found.{length-payload}
-use Rattle.fetch_disk.proofs.Moments.{weaker, called}
-use Rattle.fetch_disk.proofs.Crash.{staged, ended, at_rest_is, torn_behind, written_behind, torn_gate, written_gate, added, may_add, adds}
+use Rattle.fetch_disk.proofs.Moments.{weaker}
+use Rattle.fetch_disk.proofs.Crash.{staged, ended, at_rest_is, torn_behind, written_behind, torn_gate, written_gate, added, may_add}
 
 pub on_false : (b : Bool) (P : Type 0) → OnFalse b P → b ≡ false → P
 on_false true P h is = absurd cc

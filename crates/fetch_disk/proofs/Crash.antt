@@ -1,16 +1,14 @@
 -- What a crash leaves in each step of `append`, of records and a gate that isn't open.
-use Rattle.std.proofs.Common.{◌≡◌, ◌≢◌, ◌⊎◌, inl, inr, ℕ, zero, suc, ◌+◌, ◌^◌, ◌<◌, ◌≤◌, List, [], ◌∷◌, ◌++◌, length, get_or, take, drop, refl, sym, ◌∙◌, ap, subst, arith, append_assoc, length-append, length-drop, take-append-drop}
+use Rattle.std.proofs.Common.{◌≡◌, ◌≢◌, ◌⊎◌, inl, inr, ℕ, ◌+◌, ◌^◌, ◌<◌, List, [], ◌∷◌, ◌++◌, length, get_or, take, drop, refl, sym, ◌∙◌, ap, subst, arith, append_assoc, length-append, take-append-drop}
 use Rattle.std.proofs.lemmas.Bool.{cases_eq}
 use Rattle.std.proofs.lemmas.List.{take_at, drop_at, drop_more, take_all, drop_all, append-nil}
 use Rattle.fetch_base.specs.Id.{byte_len}
 use Rattle.fetch_base.specs.declared.id.Kind.{Kind}
-use Rattle.fetch_disk.specs.Directory.{Directory, InJournal}
-use Rattle.fetch_disk.specs.Disk.{overwritten, Torn, After, JournalIs, LeavesOnly, Follows}
+use Rattle.fetch_disk.specs.Disk.{overwritten, Torn}
 use Rattle.fetch_disk.specs.Records.{payload, opened, Stands, IsAtRest, Adds, MayAdd}
 use Rattle.fetch_disk.specs.declared.record.Record.{Record}
 use Rattle.fetch_disk.proofs.Found.{length-payload}
-use Rattle.fetch_disk.proofs.Moments.{weaker}
-use Rattle.fetch_disk.proofs.Spelled.{opened-push, opened-pushed, length-opened-push}
+use Rattle.fetch_disk.proofs.Spelled.{opened-pushed, length-opened-push}
 use Rattle.fetch_disk.proofs.Unique.{one_reading}
 
 -- the file of these records and a gate
@@ -70,12 +68,12 @@ module _ (hash : Kind) (es : List Record) (gate : ℕ) (shut : gate ≢ 1) (end 
   any_gate : (e : Record) (g : ℕ) → end + 10 + length e.body + byte_len hash < 2 ^ 64 → Stands hash (opened hash es ++ g ∷ (payload hash e ++ 0 ∷ [])) es ⊎ Stands hash (opened hash es ++ g ∷ (payload hash e ++ 0 ∷ [])) (es ++ e ∷ [])
   any_gate e g fits = elim (cases_eq g 1) [
     | inl open_gate ↦ inr (record {
-        gate = 0;
-        behind = [];
-        shut = λ h. absurd (omega arith);
-        whole = ap (λ (k : ℕ). opened hash es ++ k ∷ (payload hash e ++ 0 ∷ [])) open_gate ∙ sym (opened-pushed hash es e (0 ∷ []));
-        small = omega (arith, length-pushed e, fits);
-      })
+      gate = 0;
+      behind = [];
+      shut = λ h. absurd (omega arith);
+      whole = ap (λ (k : ℕ). opened hash es ++ k ∷ (payload hash e ++ 0 ∷ [])) open_gate ∙ sym (opened-pushed hash es e (0 ∷ []));
+      small = omega (arith, length-pushed e, fits);
+    })
     | inr closed ↦ inl (record { gate = g; behind = payload hash e ++ 0 ∷ []; shut = closed; whole = refl; small = omega (arith, size, small) })
   ]
 

@@ -1,11 +1,11 @@
 -- A record that is written is the one that is read, and nothing else is.
-use Rattle.std.proofs.Common.{◌≡◌, ◌≢◌, ℕ, zero, suc, ◌+◌, ◌-◌, ◌^◌, ◌<◌, ◌≤◌, Bool, true, false, cond, ltb, eqb, List, [], ◌∷◌, ◌++◌, length, get_or, take, drop, Option, Some, None, refl, sym, ap, subst, ◌∙◌, append_assoc, arith, take-append-drop, length-append, length-drop}
+use Rattle.std.proofs.Common.{◌≡◌, ℕ, zero, suc, ◌+◌, ◌^◌, ◌<◌, ◌≤◌, Bool, true, false, cond, ltb, eqb, List, [], ◌∷◌, ◌++◌, length, get_or, take, drop, Option, Some, None, refl, sym, ap, subst, ◌∙◌, append_assoc, arith, take-append-drop, length-append, length-drop}
 use Rattle.std.specs.Int.{w64, from_be_bytes, to_be_bytes}
 use Rattle.std.specs.Option.{option_and_then}
 use Rattle.std.specs.Prelude.{slice_index}
 use Rattle.std.specs.Str.{bytes_eq}
 use Rattle.std.proofs.lemmas.Bool.{eqb-true, ltb-false, le-ltb}
-use Rattle.std.proofs.lemmas.List.{take_at, drop_at, length-take, append-nil, take-append-le}
+use Rattle.std.proofs.lemmas.List.{take_at, drop_at, length-take, take-append-le}
 use Rattle.std.proofs.lemmas.Nat.{be_bytes_8, from_be_bytes-to_be_bytes_8}
 use Rattle.std.proofs.lemmas.Option.{option_and_then_some}
 use Rattle.std.proofs.lemmas.Slice.Eq.{bytes_eq-Decides}
@@ -16,7 +16,7 @@ use Rattle.fetch_base.specs.declared.id.Kind.TheVariants as kinds
 use Rattle.fetch_base.proofs.Digests.{length-digest}
 use Rattle.fetch_disk.specs.declared.record.Record.{Record}
 use Rattle.fetch_disk.specs.Reading.{Frame, cut_at, sized, frame, checked, first}
-use Rattle.fetch_disk.specs.Records.{message, payload, spelled, front, opened}
+use Rattle.fetch_disk.specs.Records.{message, payload}
 
 cond_left : {A : Type 0} (b : Bool) (r : Option A) (x : A) → cond b r None ≡ Some x → (b ≡ true) × (r ≡ Some x)
 cond_left true r x e = (refl, e)
@@ -136,9 +136,9 @@ pub written : (hash : Kind) (bytes : List ℕ) (e : Record) (rest : List ℕ) �
 unfolding first
 written hash bytes e rest fits is =
     option_and_then_some (checked hash) (frame (byte_len hash) bytes) (e, rest) is (λ x found passed.
-        let a = cond_left (bytes_eq (bytes_of (digest hash x.0.0)) x.0.1) (Some (record { kind = slice_index x.0.0 0; body = drop 9 x.0.0 }, x.1)) (e, rest) passed in
-        let same = (bytes_eq-Decides (bytes_of (digest hash x.0.0)) x.0.1).0 a.0 in
-        subst (λ (y : Record × List ℕ). Written hash bytes y.0 y.1) (some_is _ _ a.1) (written_frame hash bytes x fits (parts (byte_len hash) bytes x found) same))
+    let a = cond_left (bytes_eq (bytes_of (digest hash x.0.0)) x.0.1) (Some (record { kind = slice_index x.0.0 0; body = drop 9 x.0.0 }, x.1)) (e, rest) passed in
+    let same = (bytes_eq-Decides (bytes_of (digest hash x.0.0)) x.0.1).0 a.0 in
+    subst (λ (y : Record × List ℕ). Written hash bytes y.0 y.1) (some_is _ _ a.1) (written_frame hash bytes x fits (parts (byte_len hash) bytes x found) same))
 
 length-message : (e : Record) → length (message e) ≡ 9 + length e.body
 unfolding message

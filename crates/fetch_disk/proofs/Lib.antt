@@ -2,6 +2,7 @@ mod Appending
 mod Crash
 mod Found
 mod Fronts
+mod Histories
 mod Moments
 mod Recovering
 mod Spelled

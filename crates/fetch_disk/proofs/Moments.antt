@@ -1,12 +1,11 @@
 -- How spans of time are joined, and what one call leaves.
-use Rattle.std.proofs.Common.{◌≡◌, ◌⊎◌, inl, inr, ⊎_elim, ℕ, List, length, take, drop, refl, ◌+◌, ◌≤◌, arith}
+use Rattle.std.proofs.Common.{inl, inr, ⊎_elim, ℕ, List, length, refl, arith}
 use Rattle.std.proofs.lemmas.List.{take_all}
 use Rattle.std.specs.Prelude.{Result, IsErrOf}
 use Rattle.fetch_base.specs.Faults.{Faults, Counts, Counts-then, Rose-earlier}
 use Rattle.fetch_disk.specs.declared.disk_error.DiskError.{DiskError}
 use Rattle.fetch_disk.specs.Directory.{Directory, InJournal}
-use Rattle.fetch_disk.specs.Disk.{Torn, Shortened, IsOldOr, After, Follows, NoOther, Elapses, LeavesOnly, HasCause}
-
+use Rattle.fetch_disk.specs.Disk.{Torn, Shortened, After, Follows, NoOther, Elapses, LeavesOnly, HasCause}
 
 module _ {D : Type 0} (moment : D → ℕ) (left_since : D → ℕ → Directory → Type 0) where
   pub weaker : (old new : D) (P Q : Directory → Type 0) → LeavesOnly moment left_since old new P → ((l : Directory) → P l → Q l) → LeavesOnly moment left_since old new Q

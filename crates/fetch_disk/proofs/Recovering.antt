@@ -1,6 +1,6 @@
 -- What a crash leaves while a journal is opened.
-use Rattle.std.proofs.Common.{◌≡◌, ◌≢◌, ◌⊎◌, inl, inr, ℕ, zero, suc, ◌+◌, ◌^◌, ◌<◌, ◌≤◌, List, [], ◌∷◌, ◌++◌, length, take, drop, refl, sym, ◌∙◌, ap, subst, arith, append_assoc, length-append}
-use Rattle.std.proofs.lemmas.List.{take_at, take_all}
+use Rattle.std.proofs.Common.{◌≡◌, inl, inr, ℕ, zero, suc, ◌+◌, ◌≤◌, List, [], ◌∷◌, ◌++◌, length, take, refl, sym, ◌∙◌, ap, subst, arith, append_assoc, length-append}
+use Rattle.std.proofs.lemmas.List.{take_at}
 use Rattle.std.specs.Prelude.{Result, Err, IfErr}
 use Rattle.fetch_base.specs.Faults.{Faults, Counts, Rose-earlier}
 use Rattle.fetch_base.specs.declared.id.Kind.{Kind}
@@ -10,11 +10,11 @@ use Rattle.fetch_disk.specs.declared.journal_error.JournalError.{JournalError}
 use Rattle.fetch_disk.specs.declared.journal_error.JournalError.TheVariants as errors
 use Rattle.fetch_disk.specs.Errors.{journal_error}
 use Rattle.fetch_disk.specs.Journal.{OpenCause}
-use Rattle.fetch_disk.specs.Directory.{Directory, InJournal, in_journal}
+use Rattle.fetch_disk.specs.Directory.{Directory, InJournal}
 use Rattle.fetch_disk.specs.Disk.{Shortened, After, NoOther, JournalIs, LeavesOnly, HasCause}
 use Rattle.fetch_disk.specs.Records.{opened, Stands, IsAtRest, SameRecords, StaysOrReads, IsRead, IsUnread}
 use Rattle.fetch_disk.specs.declared.record.Record.{Record}
-use Rattle.fetch_disk.proofs.Moments.{weaker, joined}
+use Rattle.fetch_disk.proofs.Moments.{weaker}
 use Rattle.fetch_disk.proofs.Unique.{one_reading}
 
 -- a front that goes past the begin has it

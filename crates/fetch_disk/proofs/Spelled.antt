@@ -1,5 +1,5 @@
 -- Records behind one another, and what bytes stand for that are read to their end.
-use Rattle.std.proofs.Common.{◌≡◌, ◌≢◌, inl, inr, ℕ, zero, suc, ◌+◌, ◌^◌, ◌<◌, ◌≤◌, Bool, true, false, not, List, [], ◌∷◌, ◌++◌, length, get_or, take, Some, None, refl, sym, ap, subst, ◌∙◌, append_assoc, arith, length-append}
+use Rattle.std.proofs.Common.{◌≡◌, ◌≢◌, inl, inr, ℕ, ◌+◌, ◌^◌, ◌<◌, true, false, not, List, [], ◌∷◌, ◌++◌, length, get_or, take, Some, None, refl, sym, ap, subst, ◌∙◌, append_assoc, arith, length-append}
 use Rattle.std.specs.Prelude.{◌==◌}
 use Rattle.std.proofs.lemmas.Bool.Decides.{eqb_tells}
 use Rattle.std.proofs.lemmas.List.{append-nil, take_more}
@@ -7,7 +7,7 @@ use Rattle.fetch_base.specs.Id.{byte_len}
 use Rattle.fetch_base.specs.declared.id.Kind.{Kind}
 use Rattle.fetch_disk.specs.declared.record.Record.{Record}
 use Rattle.fetch_disk.specs.Reading.{first}
-use Rattle.fetch_disk.specs.Records.{payload, spelled, front, opened, Stands, BeginsNothing, IsDamagedAt, is_shut, IsRead}
+use Rattle.fetch_disk.specs.Records.{payload, spelled, front, opened, IsDamagedAt, is_shut, IsRead}
 use Rattle.fetch_disk.proofs.Found.{AreBytes, AreBytes-back, written, again, length-payload}
 
 pub spelled-push : (hash : Kind) (es : List Record) (e : Record) → spelled hash (es ++ e ∷ []) ≡ spelled hash es ++ 1 ∷ payload hash e
@@ -51,9 +51,9 @@ pub record Gate (bytes : List ℕ) : Type 0 where
 pub shut_gate : (bytes : List ℕ) → is_shut bytes ≡ true → Gate bytes
 shut_gate [] is = absurd cc
 shut_gate (gate ∷ behind) is = elim (eqb_tells gate 1) [
-      | inl same ↦ absurd cc
-      | inr other ↦ record { gate = gate; behind = behind; shut = other.1; is = refl }
-    ]
+  | inl same ↦ absurd cc
+  | inr other ↦ record { gate = gate; behind = behind; shut = other.1; is = refl }
+]
 
 pub ended : (hash : Kind) (bytes rest : List ℕ) (es : List Record) (end : ℕ) → bytes ≡ opened hash es ++ rest → length bytes < 2 ^ 64 → end + length rest ≡ length bytes → is_shut rest ≡ true → IsRead hash bytes es end
 ended hash bytes rest es end is small there shut =
@@ -66,9 +66,9 @@ ended hash bytes rest es end is small there shut =
 
 open_gate : (gate : ℕ) → not (gate == 1) ≡ false → gate ≡ 1
 open_gate gate is = elim (eqb_tells gate 1) [
-      | inl same ↦ same.1
-      | inr other ↦ absurd cc
-    ]
+  | inl same ↦ same.1
+  | inr other ↦ absurd cc
+]
 
 no_gate : (bytes : List ℕ) (gate : ℕ) (behind : List ℕ) → is_shut bytes ≡ false → bytes ≡ gate ∷ behind → gate ≡ 1
 no_gate bytes gate behind open_ is = open_gate gate (sym (ap is_shut is) ∙ open_)

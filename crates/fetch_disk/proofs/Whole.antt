@@ -1,7 +1,7 @@
 -- A journal that is written whole.
-use Rattle.std.proofs.Common.{◌≡◌, ◌⊎◌, inl, inr, ℕ, ◌+◌, ◌^◌, ◌<◌, List, [], ◌∷◌, ◌++◌, length, refl, sym, ◌∙◌, ap, subst, arith, length-append, false}
+use Rattle.std.proofs.Common.{◌≡◌, inr, ℕ, ◌+◌, ◌^◌, ◌<◌, List, [], ◌∷◌, length, refl, sym, ◌∙◌, ap, subst, arith, length-append, false}
 use Rattle.std.specs.Prelude.{Result, Err, IfErr}
-use Rattle.fetch_base.specs.Faults.{Faults, Counts, Rose}
+use Rattle.fetch_base.specs.Faults.{Faults}
 use Rattle.fetch_base.specs.declared.id.Kind.{Kind}
 use Rattle.fetch_disk.specs.Disk.{HasCause}
 use Rattle.fetch_disk.specs.Errors.{journal_error}
@@ -10,7 +10,6 @@ use Rattle.fetch_disk.specs.Records.{opened, journal_of, IsAtRest}
 use Rattle.fetch_disk.specs.declared.disk_error.DiskError.{DiskError}
 use Rattle.fetch_disk.specs.declared.disk_error.DiskError.TheVariants as disk
 use Rattle.fetch_disk.specs.declared.journal_error.JournalError.{JournalError}
-use Rattle.fetch_disk.specs.declared.journal_error.JournalError.TheVariants as errors
 use Rattle.fetch_disk.specs.declared.record.Record.{Record}
 
 pub whole_at_rest : (hash : Kind) (bytes : List ℕ) (es : List Record) (end : ℕ) → bytes ≡ journal_of hash es → end + 1 ≡ length bytes → length bytes < 2 ^ 64 → IsAtRest hash bytes es end

@@ -17,7 +17,11 @@ use std::alloc::Global;
 
 /// Reads the records of a journal that a crash may have left, and repairs its end: what is behind the first gate that
 /// isn't open is cut off, and synced. It may crash too, at any moment.
-pub fn recover<D: Device>(alloc: Global, hash: Kind, disk: &mut D) -> Result<Recovered, JournalError>
+pub fn recover<D: Device>(
+    alloc: Global,
+    hash: Kind,
+    disk: &mut D,
+) -> Result<Recovered, JournalError>
     ensures records { IfOk result (λ r. Stands hash (D.seen disk.old).journal r.records) }
     ensures at_rest { IfOk result (λ r. IsAtRest hash (D.seen disk.new).journal r.records r.end) }
     ensures durable { OnOk result (JournalIs (D.seen disk.new).journal (D.may_leave disk.new)) }

@@ -1,13 +1,13 @@
 //! The packs on a disk that may crash.
 
-ghost use Rattle.std.specs.Prelude.{◌≡◌, IfOk, OnOk, option_map};
+ghost use Rattle.std.specs.Prelude.{◌≡◌, IfOk, OnOk};
 ghost use Rattle.std.specs.FinMap as map;
 ghost use Rattle.fetch_disk.specs.Directory.{in_packs, InPacks};
 ghost use Rattle.fetch_disk.specs.Disk.{IsOldOr, Follows, NoOther, IsKept, Elapses, HasCause};
 
 use crate::disk_error::DiskError;
 use crate::volume::Volume;
-use fetch_base::{List, ObjectId, Text};
+use fetch_base::{ObjectId, Text};
 
 /// The packs, each a file of its own that is named by its digest. A pack that a crash or a failure cut short isn't there:
 /// what was written of it beside doesn't count, and is written anew.
@@ -24,14 +24,6 @@ pub trait Packs: Volume {
     /// The bytes of a pack, if it is there.
     fn get(&mut self, name: &ObjectId) -> Result<Option<Text>, DiskError>
         ensures bytes { IfOk result (λ found. found ≡ map.get (Self.seen self.old).packs name.now) }
-        ensures seen { Self.seen self.new ≡ Self.seen self.old }
-        ensures crash { NoOther (Self.may_leave self.old) (Self.may_leave self.new) }
-        ensures time { Elapses (Self.moment self.old) (Self.moment self.new) (Self.left_since self.old) (Self.left_since self.new) (Self.may_leave self.new) }
-        ensures cause { HasCause (Self.faults self.old) (Self.faults self.new) result };
-
-    /// The names of all packs, ascending.
-    fn names(&mut self) -> Result<List<ObjectId>, DiskError>
-        ensures names { IfOk result (λ names. names ≡ map.keys (Self.seen self.old).packs) }
         ensures seen { Self.seen self.new ≡ Self.seen self.old }
         ensures crash { NoOther (Self.may_leave self.old) (Self.may_leave self.new) }
         ensures time { Elapses (Self.moment self.old) (Self.moment self.new) (Self.left_since self.old) (Self.left_since self.new) (Self.may_leave self.new) }

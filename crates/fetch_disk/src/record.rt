@@ -1,8 +1,8 @@
 //! A record of a journal.
 
-use fetch_base::{NoMemory, Text};
-
 ghost use Rattle.std.specs.Prelude.{◌≡◌, IfOk};
+
+use fetch_base::{NoMemory, Text};
 
 /// A record: what kind it is, and its bytes.
 #[derive(Debug, Drop)]

@@ -11,7 +11,11 @@ use std::alloc::Global;
 const PIECE: usize = 1 << 16;
 
 /// Reads on behind the bytes that were read, and says whether there was more.
-fn read_piece<D: Device>(disk: &mut D, bytes: &mut Vec<u8>, piece: &mut [u8]) -> Result<bool, DiskError>
+fn read_piece<D: Device>(
+    disk: &mut D,
+    bytes: &mut Vec<u8>,
+    piece: &mut [u8],
+) -> Result<bool, DiskError>
     requires front { IsFront bytes.old.items (D.seen disk.old).journal }
     requires room { 0 < length piece.old }
     ensures front { IfOk result (λ _. IsFront bytes.new.items (D.seen disk.old).journal) }

@@ -16,7 +16,12 @@ use fetch_base::Kind;
 use std::alloc::Global;
 
 /// Puts the journal of these records in the place of the file, and tells where its closed gate is.
-pub(crate) fn write_whole<D: Device>(alloc: Global, hash: Kind, disk: &mut D, records: &[Record]) -> Result<usize, JournalError>
+pub(crate) fn write_whole<D: Device>(
+    alloc: Global,
+    hash: Kind,
+    disk: &mut D,
+    records: &[Record],
+) -> Result<usize, JournalError>
     ensures written { OnOk result ((D.seen disk.new).journal ≡ journal_of hash records.now) }
     ensures at_rest { IfOk result (λ end. IsAtRest hash (D.seen disk.new).journal records.now end) }
     ensures durable { OnOk result (JournalIs (D.seen disk.new).journal (D.may_leave disk.new)) }

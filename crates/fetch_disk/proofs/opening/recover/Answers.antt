@@ -1,11 +1,10 @@
 use Rattle.std.proofs.Common.{◌≡◌, ◌≤◌, length, ◌∙◌, ap, sym, subst, List, ℕ, ◌+◌, take}
 use Rattle.std.specs.Prelude.{Err}
 use Rattle.std.proofs.lemmas.Result.{err_from_is_err_and, IfErr-at_err}
-use Rattle.fetch_base.specs.Faults.{Counts, Counts-none, Counts-then}
+use Rattle.fetch_base.specs.Faults.{Counts-none, Counts-then}
 use Rattle.fetch_disk.specs.Directory.{Directory, InJournal}
 use Rattle.fetch_disk.specs.Disk.{After, JournalIs, LeavesOnly}
-use Rattle.fetch_disk.specs.Errors.{journal_error}
-use Rattle.fetch_disk.specs.Records.{IsRead, IsUnread, Stands, StaysOrReads}
+use Rattle.fetch_disk.specs.Records.{IsRead, IsUnread, StaysOrReads}
 use Rattle.fetch_disk.proofs.Moments.{joined, weaker}
 use Rattle.fetch_disk.proofs.Recovering.{within, cut_is, cut_span, stays, open_cause, unread_cause}
 use Rattle.fetch_disk.proofs.opening.recover.Goals as goal

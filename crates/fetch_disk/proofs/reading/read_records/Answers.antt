@@ -1,4 +1,4 @@
-use Rattle.std.proofs.Common.{◌≡◌, [], ◌∷◌, ◌++◌, ◌∙◌, ap, sym, subst, arith, length, length-append, ℕ, List}
+use Rattle.std.proofs.Common.{◌≡◌, [], ◌∷◌, ◌++◌, ◌∙◌, ap, sym, arith, length, length-append, ℕ, List}
 use Rattle.fetch_disk.specs.declared.record.Record.{Record}
 use Rattle.fetch_disk.specs.Records.{opened}
 use Rattle.fetch_disk.proofs.Spelled.{opened-nil, one_more, shorter, damaged}

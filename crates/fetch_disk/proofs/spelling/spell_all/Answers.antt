@@ -1,7 +1,6 @@
-use Rattle.std.proofs.Common.{◌≡◌, ◌∙◌, [], ◌∷◌, ◌++◌, ap, sym, arith, List, ℕ}
+use Rattle.std.proofs.Common.{◌∙◌, [], ◌∷◌, ◌++◌, ap, arith, List, ℕ}
 use Rattle.std.proofs.lemmas.List.{take_all}
 use Rattle.fetch_disk.specs.Records.{opened, payload}
-use Rattle.fetch_disk.specs.declared.record.Record.{Record}
 use Rattle.fetch_disk.proofs.Spelled.{opened-empty, opened-more}
 use Rattle.fetch_disk.proofs.spelling.spell_all.Goals as goal
 

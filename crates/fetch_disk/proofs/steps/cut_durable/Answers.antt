@@ -1,4 +1,3 @@
-use Rattle.std.proofs.Common.{length}
 use Rattle.fetch_disk.specs.Disk.{Shortened}
 use Rattle.fetch_disk.proofs.Moments.{changed, synced, shortened_same}
 use Rattle.fetch_disk.proofs.steps.cut_durable.Goals as goal

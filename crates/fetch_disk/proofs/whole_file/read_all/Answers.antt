@@ -1,4 +1,4 @@
-use Rattle.std.proofs.Common.{◌≡◌, ℕ, List, ◌++◌, length, take, drop, refl, sym, ap, subst, arith, length-append, length-drop}
+use Rattle.std.proofs.Common.{◌≡◌, ℕ, List, ◌++◌, length, refl, sym, ap, subst, arith, length-append, length-drop}
 use Rattle.std.specs.Prelude.{Ok, Err}
 use Rattle.std.proofs.lemmas.List.{length-take}
 use Rattle.std.proofs.lemmas.Result.{err_from_is_err_and}
@@ -45,8 +45,12 @@ pub loop-piece-smaller : goal.loop-piece-smaller
 loop-piece-smaller g c =
     let v = g.D.Volume in
     let grows = c.in_ok-read_piece.ensures.more (ap Ok c.if-branch.true) in
-    omega (arith, grows, ap (λ (d : Directory). length d.journal) c.read_piece.ensures.seen,
-      front_length c.read_piece.new.bytes.items (v.seen c.loop-piece.disk).journal c.in_ok-read_piece.ensures.front)
+    omega (
+      arith,
+      grows,
+      ap (λ (d : Directory). length d.journal) c.read_piece.ensures.seen,
+      front_length c.read_piece.new.bytes.items (v.seen c.loop-piece.disk).journal c.in_ok-read_piece.ensures.front,
+    )
 
 pub loop-piece-preserved : goal.loop-piece-preserved
 loop-piece-preserved g c =

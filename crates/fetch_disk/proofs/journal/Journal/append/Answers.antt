@@ -1,9 +1,9 @@
-use Rattle.std.proofs.Common.{◌≡◌, ◌⊎◌, inl, ℕ, ◌+◌, ◌^◌, ◌<◌, List, [], ◌∷◌, ◌++◌, length, refl, sym, ◌∙◌, ap, subst, arith, length-append}
+use Rattle.std.proofs.Common.{◌≡◌, inl, ◌+◌, ◌^◌, ◌<◌, [], ◌∷◌, ◌++◌, length, refl, ◌∙◌, ap, arith, length-append}
 use Rattle.fetch_base.specs.Id.{byte_len}
-use Rattle.fetch_disk.specs.Directory.{Directory, InJournal}
+use Rattle.fetch_disk.specs.Directory.{InJournal}
 use Rattle.fetch_disk.specs.Disk.{After, JournalIs}
 use Rattle.fetch_disk.specs.Journal.{IsSettled}
-use Rattle.fetch_disk.specs.Records.{payload, MayAdd, Stands}
+use Rattle.fetch_disk.specs.Records.{payload, MayAdd}
 use Rattle.fetch_disk.specs.declared.record.Record.{Record}
 use Rattle.fetch_disk.proofs.Found.{length-payload, byte_len-most}
 use Rattle.fetch_disk.proofs.Moments.{joined}
@@ -90,8 +90,7 @@ returns-clause-acknowledged g c =
     let middle = middle_is v.moment v.left_since v.may_leave hash e file s.records end s.at_rest small c.args.self.now.disk s.durable (v.seen c.args.self.now.disk) (v.seen c.write_durable.new.disk) c.deref.result.now refl text c.in_ok-write_durable.ensures.written in
     let last = last_is v.moment v.left_since v.may_leave hash e file s.records end s.at_rest small c.args.self.now.disk s.durable (v.seen c.write_durable.new.disk) (v.seen c.write_durable-2.new.disk) middle c.in_ok-write_durable-2.ensures.written in
     let size : length c.in_ok-bytes.bytes.items ≡ 10 + length e.body + byte_len hash = omega (arith, ap length c.in_ok-bytes.ensures, length-append (payload hash e) (0 ∷ []), length-payload hash e) in
-    let rest = added_is v.moment v.left_since v.may_leave hash e file s.records end s.at_rest small c.args.self.now.disk s.durable (v.seen c.write_durable-2.new.disk).journal (end + c.len.result) fits last (omega (arith, size, c.len.ensures)) in
-    (
+    let rest = added_is v.moment v.left_since v.may_leave hash e file s.records end s.at_rest small c.args.self.now.disk s.durable (v.seen c.write_durable-2.new.disk).journal (end + c.len.result) fits last (omega (arith, size, c.len.ensures)) in (
       record { records = s.records ++ e ∷ []; at_rest = rest; durable = c.in_ok-write_durable-2.ensures.durable },
       adds hash s.records e file (v.seen c.write_durable-2.new.disk).journal s.at_rest.stands rest.stands,
     )
