@@ -9,7 +9,6 @@ use Rattle.fetch_disk.specs.Records.{payload, opened, Stands, IsAtRest, Adds, Ma
 use Rattle.fetch_disk.specs.declared.record.Record.{Record}
 use Rattle.fetch_disk.proofs.Found.{length-payload}
 use Rattle.fetch_disk.proofs.Spelled.{opened-pushed, length-opened-push}
-use Rattle.fetch_disk.proofs.Unique.{one_reading}
 
 -- the file of these records and a gate
 abbrev pub ended : Kind → List Record → ℕ → List ℕ
@@ -101,9 +100,10 @@ module _ (hash : Kind) (es : List Record) (gate : ℕ) (shut : gate ≢ 1) (end 
     place = omega (arith, length-pushed e, there);
   }
 
--- what these records are, the bytes are
+-- ---- said of bytes that stand for these records
+
 pub may_add : (hash : Kind) (es : List Record) (e : Record) (old new : List ℕ) → Stands hash old es → Stands hash new es ⊎ Stands hash new (es ++ e ∷ []) → MayAdd hash e old new
-may_add hash es e old new stands either fs others = subst (λ (gs : List Record). Stands hash new gs ⊎ Stands hash new (gs ++ e ∷ [])) (one_reading hash old es fs stands others) either
+may_add hash es e old new stands either = inr (es, stands, either)
 
 pub adds : (hash : Kind) (es : List Record) (e : Record) (old new : List ℕ) → Stands hash old es → Stands hash new (es ++ e ∷ []) → Adds hash e old new
-adds hash es e old new stands now fs others = subst (λ (gs : List Record). Stands hash new (gs ++ e ∷ [])) (one_reading hash old es fs stands others) now
+adds hash es e old new stands now = (es, stands, now)

@@ -15,7 +15,6 @@ use Rattle.fetch_disk.specs.Disk.{Shortened, After, NoOther, JournalIs, LeavesOn
 use Rattle.fetch_disk.specs.Records.{opened, Stands, IsAtRest, SameRecords, StaysOrReads, IsRead, IsUnread}
 use Rattle.fetch_disk.specs.declared.record.Record.{Record}
 use Rattle.fetch_disk.proofs.Moments.{weaker}
-use Rattle.fetch_disk.proofs.Unique.{one_reading}
 
 -- a front that goes past the begin has it
 take_past : (xs ys : List ℕ) (m : ℕ) → length xs ≤ m → (n : ℕ) × (take m (xs ++ ys) ≡ xs ++ take n ys)
@@ -63,7 +62,7 @@ module _ (hash : Kind) (bytes : List ℕ) (es : List Record) (end : ℕ) (r : Is
 
   -- what stands for these records, stands for what the bytes stand for
   pub same_records : (c : List ℕ) → Stands hash c es → SameRecords hash bytes c
-  same_records c now fs others = subst (λ (gs : List Record). Stands hash c gs) (one_reading hash bytes es fs r.stands others) now
+  same_records c now = (es, r.stands, now)
 
   module _ {D : Type 0} (moment : D → ℕ) (left_since : D → ℕ → Directory → Type 0) (may_leave : D → Directory → Type 0) where
     -- the cut of a disk whose outcomes all have these bytes

@@ -67,17 +67,17 @@ pub record IsDamagedAt (hash : Kind) (bytes : List ℕ) (place : ℕ) : Type 0 w
 
 -- ---- what a step makes of the records
 
--- the same records
+-- both stand for the same records
 abbrev pub SameRecords : Kind → List ℕ → List ℕ → Type 0
-SameRecords hash old new = (es : List Record) → Stands hash old es → Stands hash new es
+SameRecords hash old new = (es : List Record) × Stands hash old es × Stands hash new es
 
--- the same records, and this one behind them
+-- the new bytes stand for the records of the old ones, and for this one behind them
 abbrev pub Adds : Kind → Record → List ℕ → List ℕ → Type 0
-Adds hash e old new = (es : List Record) → Stands hash old es → Stands hash new (es ++ e ∷ [])
+Adds hash e old new = (es : List Record) × Stands hash old es × Stands hash new (es ++ e ∷ [])
 
--- the same records, or these and one more
+-- The bytes stay, or they stand for the records of the old ones, with this one behind them or without it.
 abbrev pub MayAdd : Kind → Record → List ℕ → List ℕ → Type 0
-MayAdd hash e old new = (es : List Record) → Stands hash old es → Stands hash new es ⊎ Stands hash new (es ++ e ∷ [])
+MayAdd hash e old new = (new ≡ old) ⊎ ((es : List Record) × Stands hash old es × (Stands hash new es ⊎ Stands hash new (es ++ e ∷ [])))
 
 -- ---- reading
 
@@ -117,6 +117,6 @@ pub record IsAtRest (hash : Kind) (bytes : List ℕ) (es : List Record) (end : �
   pub nothing_behind : stands.behind ≡ []
   pub place : end ≡ length (opened hash es)
 
--- It stays, or it stands for the records that are read of these bytes.
+-- The bytes stay, or they stand for the records that are read of these.
 abbrev pub StaysOrReads : Kind → List ℕ → List ℕ → List ℕ → Type 0
 StaysOrReads hash read old new = (new ≡ old) ⊎ SameRecords hash read new

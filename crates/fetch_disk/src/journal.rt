@@ -1,6 +1,6 @@
 //! A journal: records behind open gates, and a closed gate behind the last of them.
 
-ghost use Rattle.std.specs.Prelude.{◌≡◌, ◌⊎◌, ◌≤◌, ◌^◌, length, OnOk, OnErr, IfErr};
+ghost use Rattle.std.specs.Prelude.{◌≡◌, ◌⊎◌, ◌≤◌, ◌^◌, true, length, OnOk, OnErr, IfErr, IsErrOf};
 ghost use Rattle.fetch_base.specs.Faults.{Counts};
 ghost use Rattle.fetch_disk.specs.Directory.{InJournal};
 ghost use Rattle.fetch_disk.specs.Disk.{IsOldOr, After, LeavesOnly};
@@ -46,6 +46,7 @@ impl<D: Device> Journal<D> {
         ensures sound { IsSound D.seen D.may_leave self.new }
         ensures hash { self.new.hash ≡ self.old.hash }
         ensures err { OnErr result (IsUnchangedOrFailed self.old self.new) }
+        ensures once_failed { self.old.failed ≡ true → (self.new ≡ self.old) × IsErrOf result JournalError.Failed }
         ensures counts { Counts (D.faults self.old.disk) (D.faults self.new.disk) }
         ensures cause { IfErr result (WriteCause self.old.failed ((2 ^ 60 ≤ self.old.end) ⊎ (2 ^ 60 ≤ length body.now))
             (D.faults self.old.disk) (D.faults self.new.disk)) }
@@ -77,6 +78,7 @@ impl<D: Device> Journal<D> {
         ensures sound { IsSound D.seen D.may_leave self.new }
         ensures hash { self.new.hash ≡ self.old.hash }
         ensures err { OnErr result (IsUnchangedOrFailed self.old self.new) }
+        ensures once_failed { self.old.failed ≡ true → (self.new ≡ self.old) × IsErrOf result JournalError.Failed }
         ensures counts { Counts (D.faults self.old.disk) (D.faults self.new.disk) }
         ensures cause { IfErr result (WriteCause self.old.failed ⊥ (D.faults self.old.disk) (D.faults self.new.disk)) }
     {

@@ -15,19 +15,19 @@ pub returns-then-self-clause-any_moment : goal.returns-then-self-clause-any_mome
 returns-then-self-clause-any_moment g c =
     let v = g.D.Volume in
     let e : Record = record { kind = c.args.kind; body = c.args.body.now } in
-    stands_still v.moment v.left_since v.may_leave v.only_now c.args.self.now.disk (MayAdd c.args.self.now.hash e) (λ bytes es stands. inl stands)
+    stands_still v.moment v.left_since v.may_leave v.only_now c.args.self.now.disk (MayAdd c.args.self.now.hash e) (λ bytes. inl refl)
 
 pub returns-then-self-ge-LIMIT-clause-any_moment : goal.returns-then-self-ge-LIMIT-clause-any_moment
 returns-then-self-ge-LIMIT-clause-any_moment g c =
     let v = g.D.Volume in
     let e : Record = record { kind = c.args.kind; body = c.args.body.now } in
-    stands_still v.moment v.left_since v.may_leave v.only_now c.args.self.now.disk (MayAdd c.args.self.now.hash e) (λ bytes es stands. inl stands)
+    stands_still v.moment v.left_since v.may_leave v.only_now c.args.self.now.disk (MayAdd c.args.self.now.hash e) (λ bytes. inl refl)
 
 pub returns-in_err-bytes-clause-any_moment : goal.returns-in_err-bytes-clause-any_moment
 returns-in_err-bytes-clause-any_moment g c =
     let v = g.D.Volume in
     let e : Record = record { kind = c.args.kind; body = c.args.body.now } in
-    stands_still v.moment v.left_since v.may_leave v.only_now c.args.self.now.disk (MayAdd c.args.self.now.hash e) (λ bytes es stands. inl stands)
+    stands_still v.moment v.left_since v.may_leave v.only_now c.args.self.now.disk (MayAdd c.args.self.now.hash e) (λ bytes. inl refl)
 
 -- the first write leaves the records before
 pub returns-in_err-write_durable-clause-any_moment : goal.returns-in_err-write_durable-clause-any_moment
