@@ -1,0 +1,10 @@
+mod Appending
+mod Crash
+mod Found
+mod Fronts
+mod Histories
+mod Moments
+mod Recovering
+mod Spelled
+mod Unique
+mod Whole
