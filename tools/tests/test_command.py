@@ -222,7 +222,7 @@ class Fetched(WithServer):
         self.clients()
         self.work("bundle", "create", "-q", self.path("one.bundle"), "main")
         for words, text in [
-            (["--prune"], "--prune isn't supported by git bagjulen"), (["--jobs=4"], "--jobs isn't supported"),
+            (["--refetch"], "--refetch isn't supported by git bagjulen"), (["--jobs=x"], "invalid int value"),
             (["ftp://x/y"], "the transport 'ftp' isn't supported"), (["ext::sh"], "transport 'ext' not allowed"),
             (["nowhere"], "'nowhere' does not appear to be a git repository"), (["--depth", "0"], "depth 0 is not a positive"),
             (["--unshallow"], "--unshallow on a complete repository does not make sense"), (["origin", "tag"], "tag name"),
