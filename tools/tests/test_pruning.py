@@ -86,5 +86,8 @@ class Pruned(WithServer):
         self.assertEqual((ours[0], self.state("ours")[:3]), (128, before[:3]))
         self.assertEqual(self.state("theirs")[:3], before[:3])
         self.assertEqual(self.assert_alike("origin", "main"), 0)
-        self.assertEqual(self.assert_alike("--atomic", "origin", "wt/x:refs/new", "wt/x:refs/remotes/origin/main"), 1)
+        (status, out, messages), ours = self.both(
+            ["fetch", "--atomic", "origin", "wt/x:refs/new", "wt/x:refs/remotes/origin/main"])
+        self.assertEqual(ours, (1, out, messages.removesuffix("error: \n")))
+        self.assertEqual((status, self.state("ours")), (1, self.state("theirs")))
         self.assertFalse(os.path.exists(self.path("ours/.git/refs/new")))
