@@ -3,7 +3,8 @@
 import os
 import unittest
 
-from bagjulen_tools.remote.prune import stale, truth
+from bagjulen_tools.remote.prune import stale
+from bagjulen_tools.repository.git import truth
 from test_command import IS_BUILT, WithServer
 
 

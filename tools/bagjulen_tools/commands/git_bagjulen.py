@@ -156,8 +156,11 @@ def standing() -> Repository:
     try:
         if "GIT_DIR" in os.environ:
             return Repository(os.environ["GIT_DIR"])
-        os.chdir(Repository(".").path)
-        return Repository(".")
+        found = Repository(".")
+        found.common_dir = os.path.abspath(found.common_dir)
+        os.chdir(found.path)
+        found.path = "."
+        return found
     except Trouble as trouble:
         told, _, line = str(trouble).partition(" is no repository: ")
         raise Trouble(trouble.status, line or told) from None

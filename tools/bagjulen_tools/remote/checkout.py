@@ -19,7 +19,9 @@ def checked_out(repository: Repository, submodules: list[str], is_quiet: bool, j
 
 def _run_hook(repository: Repository) -> int:
     """The status of the hook, which gets what Git's clone hands it: no id, that of HEAD, and 1 for a checkout of branches."""
-    folder = repository.text("rev-parse", "--git-path", "hooks")
+    is_set = any(key == "core.hookspath" for key, _ in repository.entries())
+    folder = repository.text("rev-parse", "--git-path", "hooks") if is_set else os.path.join(
+        os.path.abspath(repository.common_dir), "hooks")
     if not os.access(os.path.join(repository.path, folder, "post-checkout"), os.X_OK):
         return DONE
     head = repository.text("rev-parse", "HEAD")

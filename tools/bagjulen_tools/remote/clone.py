@@ -13,6 +13,7 @@ from bagjulen_tools.protocol.upload_pack import Server
 from bagjulen_tools.remote.checkout import checked_out
 from bagjulen_tools.remote.fetch import FetchOptions, FetchPlan, depth_options, fetch_from
 from bagjulen_tools.remote.messages import Progress
+from bagjulen_tools.repository.configuration import add_section
 from bagjulen_tools.repository.git import Repository, entries_in, git
 from bagjulen_tools.trouble import BAD_INPUT, BAD_WORDS, DONE, GIT_REFUSED, Trouble, read_file
 
@@ -71,8 +72,10 @@ def clone(asked: argparse.Namespace, options: FetchOptions, engine: Engine) -> i
     engine.start()
     if options.verbosity >= 0:
         print(f"Cloning into {'bare repository ' * is_bare}'{folder}'...", file=sys.stderr)
-    source = decoded_text(git(["ls-remote", "--get-url", "--", address], more=NOWHERE)).removesuffix("\n")
     entries = list(entries_in(git(["config", "--list", "-z"], more=NOWHERE)))
+    source = address
+    if any(key.endswith(".insteadof") for key, _ in entries):
+        source = decoded_text(git(["ls-remote", "--get-url", "--", address], more=NOWHERE)).removesuffix("\n")
     asked.entries, last = entries, dict(entries)
     asked.origin = asked.origin or last.get("clone.defaultremotename") or "origin"
     program = asked.upload_pack or last.get(f"remote.{asked.origin}.uploadpack")
@@ -145,10 +148,11 @@ def _clone_from(server: Server, asked: argparse.Namespace, options: FetchOptions
     last = dict(asked.entries)
     remote = Remote(server, last.get("init.defaultbranch") or "master")
     chosen, name = remote.chosen(asked.branch, asked.origin), asked.origin
+    branch = chosen.removeprefix(BRANCHES) if chosen is not None and chosen.startswith(BRANCHES) else "main"
     words = ["--bare"] if asked.bare or asked.mirror else []
     words += [f"--{word}={value}" for word, value in (("template", asked.template),
               ("separate-git-dir", asked.separate_git_dir)) if value is not None]
-    git(["init", "-q", f"--object-format={server.hash_name}", "-b", "main", *words, folder])
+    git(["init", "-q", f"--object-format={server.hash_name}", "-b", branch, *words, folder])
     repository = Repository(folder)
     specs, tags = specs_of(asked, name, chosen)
     _configure(repository, asked, name, address, [MIRRORED] if asked.mirror else specs)
@@ -189,13 +193,9 @@ def _configure(repository, asked, name, address, specs):
     for word in asked.config:
         key, has_value, value = word.partition("=")
         repository.git("config", "--add", key, value if has_value else "true")
-    repository.git("config", f"remote.{name}.url", address)
-    if asked.no_tags:
-        repository.git("config", f"remote.{name}.tagOpt", "--no-tags")
-    for spec in [] if asked.bare and not asked.mirror else specs:
-        repository.git("config", "--add", f"remote.{name}.fetch", spec)
-    if asked.mirror:
-        repository.git("config", f"remote.{name}.mirror", "true")
+    entries = [("url", address), *([("tagOpt", "--no-tags")] if asked.no_tags else [])]
+    entries += [("fetch", spec) for spec in ([] if asked.bare and not asked.mirror else specs)]
+    add_section(repository, "remote", name, [*entries, *([("mirror", "true")] if asked.mirror else [])])
     if asked.sparse:
         repository.git("sparse-checkout", "set")
 
@@ -207,16 +207,14 @@ def _point_head(repository, remote, chosen, asked, name, address):
     digits = None if digits == "unborn" else digits
     if chosen is not None and chosen.startswith(BRANCHES):
         branch = chosen.removeprefix(BRANCHES)
-        repository.git("symbolic-ref", "HEAD", chosen)
         if digits is not None:
             repository.git("update-ref", *message, "HEAD", digits)
         if not is_bare:
-            repository.git("config", f"branch.{branch}.remote", name)
-            repository.git("config", f"branch.{branch}.merge", chosen)
+            add_section(repository, "branch", branch, [("remote", name), ("merge", chosen)])
     elif digits is not None:
         repository.git("update-ref", "--no-deref", *message, "HEAD", f"{digits}^{{commit}}")
     tracked = f"refs/remotes/{name}/{(remote.head or '').removeprefix(BRANCHES)}"
-    if not is_bare and remote.head and tracked in repository.direct_references():
+    if not is_bare and remote.head and os.path.exists(repository.place(tracked)):
         repository.git("symbolic-ref", *message, f"refs/remotes/{name}/HEAD", tracked)
     if not is_bare and digits is not None and not asked.no_checkout:
         repository.git("read-tree", "-m", "-u", "HEAD")

@@ -16,11 +16,11 @@ from bagjulen_tools.remote import messages
 from bagjulen_tools.remote.client import remote_of, scene_of
 from bagjulen_tools.remote.conversation import converse
 from bagjulen_tools.remote.messages import IGNORED, MERGE, NOT_FOR_MERGE, RefUpdate
-from bagjulen_tools.remote.prune import delete, stale, truth
+from bagjulen_tools.remote.prune import delete, stale
 from bagjulen_tools.remote.refspecs import brings, forced, is_from, sides, tracking
 from bagjulen_tools.remote.sources import check_sources
 from bagjulen_tools.remote.unwritable import written
-from bagjulen_tools.repository.git import Repository
+from bagjulen_tools.repository.git import Repository, truth
 from bagjulen_tools.trouble import BAD_WORDS, DIFFERENT, DONE, GIT_REFUSED, Trouble, write_file
 
 TAG_SPEC = "refs/tags/*:refs/tags/*"
@@ -112,7 +112,9 @@ def plan_of(repository: Repository, word: str | None, specs: list[str], is_force
     name = word if word in names else None
     configured, tags = remote_of(repository, word) if name else ([], "included")
     merges = [value for key, value in entries if key == f"branch.{branch}.merge" and own == word and value]
-    address = repository.text("ls-remote", "--get-url", "--", word)
+    address = next((value for key, value in entries if key == f"remote.{word}.url"), None) or ""
+    if not address or any(key.endswith(".insteadof") for key, _ in entries):
+        address = repository.text("ls-remote", "--get-url", "--", word)
     if specs:
         led = configured if refmap is None else [each for each in refmap if each]
         extra = [each for spec in specs for each in tracking(spec, led)]

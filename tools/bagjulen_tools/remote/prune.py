@@ -5,25 +5,6 @@ from collections.abc import Iterable, Mapping
 from bagjulen_tools.formats.grammar import DIGITS
 from bagjulen_tools.remote.refspecs import PLACES, full_destination, middle, sides
 from bagjulen_tools.repository.git import Repository, run_git, why
-from bagjulen_tools.trouble import BAD_INPUT, Trouble
-
-Entries = Mapping[str, str | None]
-TRUE, FALSE = ("true", "yes", "on"), ("false", "no", "off", "")
-
-
-def truth(entries: Entries, *keys: str) -> bool | None:
-    """The truth value of the first of these keys that the configuration has, as Git reads one."""
-    for key in keys:
-        if key in entries:
-            value = entries[key]
-            word = "true" if value is None else value.lower()
-            if word in TRUE or word in FALSE:
-                return word in TRUE
-            number = word.rstrip("kmg") if word[-1:] in "kmg" else word
-            if not number.removeprefix("-").isdecimal():
-                raise Trouble(BAD_INPUT, f"bad boolean config value '{value}' for '{key}'")
-            return int(number) != 0
-    return None
 
 
 def stale(specs: Iterable[str], listed: Mapping[str, str | None], references: Mapping[str, str]) -> dict[str, str]:

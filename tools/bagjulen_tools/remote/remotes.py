@@ -3,7 +3,7 @@
 import argparse
 import os
 import sys
-from collections.abc import Iterable
+from collections.abc import Iterable, Mapping
 
 from bagjulen_tools.engine import Engine
 from bagjulen_tools.remote.fetch import (
@@ -16,9 +16,8 @@ from bagjulen_tools.remote.fetch import (
     fetch,
     plan_of,
 )
-from bagjulen_tools.remote.prune import Entries, truth
 from bagjulen_tools.remote.upstream import set_upstream
-from bagjulen_tools.repository.git import Repository
+from bagjulen_tools.repository.git import Repository, truth
 from bagjulen_tools.trouble import BAD_WORDS, DIFFERENT, DONE, ToldTrouble, Trouble
 
 
@@ -120,7 +119,7 @@ def fetch_one(repository: Repository, asked: argparse.Namespace, options: FetchO
     return told
 
 
-def choose_pruning(plan: FetchPlan, asked: argparse.Namespace, last: Entries, has_specs: bool) -> None:
+def choose_pruning(plan: FetchPlan, asked: argparse.Namespace, last: Mapping[str, str | None], has_specs: bool) -> None:
     """Has a plan prune where words ask for it, or else the configuration, and has it fetch all tags where they are pruned.
 
     Beside refspecs of the words tags aren't pruned.

@@ -18,11 +18,20 @@ def written(repository: Repository, scene: Scene, report: Report, told: list[Ref
 
     One that is atomic is refused as a whole there.
     """
+    if leaves_all(scene, report):
+        return told
     clear(repository)
     refused = [] if is_atomic else list(unwritable(repository, scene, report))
     apply(repository, scene, without(scene, report, refused))
     troubles = {name: _refusal(repository, scene, report, name) for name in refused}
     return [replace(each, trouble=troubles.get(each.destination or "")) for each in told]
+
+
+def leaves_all(scene: Scene, report: Report) -> bool:
+    """Whether a report leaves all as it was in the scene."""
+    stood = {each.id for each in scene.objects}
+    return report.references == scene.references and sorted(report.border) == sorted(scene.border) and stood.issuperset(
+        report.ids)
 
 
 def unwritable(repository: Repository, scene: Scene, report: Report) -> Iterator[str]:
