@@ -76,6 +76,16 @@ class Words(WithServer):
             self.git(self.path(client), "-c", f"alias.read={alias}", "read")
         self.assertEqual(self.state("ours"), self.state("theirs"))
 
+    def test_tags_of_what_is_there(self) -> None:
+        """They come along, with a message or without one, also where nothing else is new."""
+        self.assertEqual(self.assert_alike(), 0)
+        self.work("tag", "-a", "-m", "old", "before", "HEAD~2")
+        self.work("tag", "-a", "-m", "of a tag", "nest", "before")
+        self.work("tag", "light", "HEAD~2")
+        self.push()
+        self.assertEqual(self.assert_alike("origin", "main"), 0)
+        self.assertEqual(self.assert_alike(), 0)
+
     def test_the_name_of_a_head(self) -> None:
         status, _, messages = self.run_git(self.path("ours"), "bagjulen", "fetch", "origin", "HEAD:refs/heads/new")
         self.assertEqual(status, 0)

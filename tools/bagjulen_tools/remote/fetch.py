@@ -168,10 +168,7 @@ def fetch(repository: Repository, plan: FetchPlan, options: FetchOptions, engine
 def fetch_from(server: Server, repository: Repository, plan: FetchPlan, options: FetchOptions, engine: Engine,
                action: str) -> int:
     """The same from a server that is connected."""
-    scene = scene_of(repository)
-    scene.address, scene.specs, scene.extra, scene.tags = plan.address, plan.specs, plan.extra, plan.tags
-    scene.options = [*plan.options, f"action {' '.join(action.split())}"]
-    report = conversed(scene, server, engine, plan, options.updates_shallow)
+    scene, report = asked_of(server, repository, plan, options, engine, action)
     told = [] if report is None else told_of(scene, report, plan)
     plan.headless = [each.source for each in told if each.destination is None]
     if options.is_atomic and any(each.is_rejected() for each in told):
@@ -182,8 +179,47 @@ def fetch_from(server: Server, repository: Repository, plan: FetchPlan, options:
         print(f"error: {why_kept}", file=sys.stderr)
     if report is not None and not options.is_dry:
         told = written(repository, scene, report, told, options.is_atomic)
+    if report is not None and plan.tags == "included":
+        specs = [f"{name}:{name}" for name in tags_left(scene, report)]
+        tags = FetchPlan(plan.address, plan.name, specs, tags="none")
+        told = with_tags(told, plan, tags_told(server, repository, tags, options, engine, action) if specs else [])
     tell(repository, scene, told, plan, options)
     return DIFFERENT if why_kept or any(each.is_rejected() for each in told) else DONE
+
+
+def asked_of(server: Server, repository: Repository, plan: FetchPlan, options: FetchOptions, engine: Engine,
+             action: str) -> tuple[Scene, Report | None]:
+    """The scene of a fetch with all that the server said, and its report, or None where there is nothing to bring."""
+    scene = scene_of(repository)
+    scene.address, scene.specs, scene.extra, scene.tags = plan.address, plan.specs, plan.extra, plan.tags
+    scene.options = [*plan.options, f"action {' '.join(action.split())}"]
+    return scene, conversed(scene, server, engine, plan, options.updates_shallow)
+
+
+def tags_left(scene: Scene, report: Report) -> list[str]:
+    """The tags that would come along as the objects that they lead to are there, and that the fetch didn't bring."""
+    stored, found = set(report.ids), {}
+    excluded = [spec[1:] for spec in scene.specs if spec.startswith("^")]
+    for _, line in placed_lines(scene.server[1]):
+        if isinstance(line, bytes):
+            digits, name, *more = text_of(line).split(" ")
+            found[name] = next((mark.removeprefix("peeled:") for mark in more if mark.startswith("peeled:")), digits)
+    return [name for name, digits in found.items() if name.startswith("refs/tags/") and digits in stored
+            and name not in report.references and not any(brings(each, name) for each in excluded)]
+
+
+def tags_told(server: Server, repository: Repository, plan: FetchPlan, options: FetchOptions, engine: Engine,
+              action: str) -> list[RefUpdate]:
+    """What is told of a second fetch, of tags alone."""
+    scene, report = asked_of(server, repository, plan, options, engine, action)
+    told = [] if report is None else told_of(scene, report, plan)
+    return told if report is None or options.is_dry else written(repository, scene, report, told, options.is_atomic)
+
+
+def with_tags(told: list[RefUpdate], plan: FetchPlan, tags: list[RefUpdate]) -> list[RefUpdate]:
+    """What is told of both fetches: tags that come along last, by their names."""
+    followed = [each for each in told if tags and plan.is_followed(each)]
+    return [*(each for each in told if each not in followed), *sorted([*followed, *tags], key=lambda each: each.source)]
 
 
 def conversed(scene: Scene, server: Server, engine: Engine, plan: FetchPlan,
