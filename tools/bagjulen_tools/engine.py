@@ -90,6 +90,8 @@ def malformed(scene: bytes, told: str) -> Trouble:
     if not isinstance(line, bytes):
         return Trouble(BAD_INPUT, f"the engine can't read the scene at {place}")
     text = text_of(line)
+    if text.startswith("fetch "):
+        return Trouble(BAD_WORDS, f"invalid refspec '{text.removeprefix('fetch ')}'")
     status = BAD_WORDS if text.startswith(GIVEN) else BAD_INPUT
     if text.startswith("remote "):
         text = f"remote {anonymous(text.removeprefix('remote '))}"

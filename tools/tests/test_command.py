@@ -222,7 +222,7 @@ class Fetched(WithServer):
         self.clients()
         self.work("bundle", "create", "-q", self.path("one.bundle"), "main")
         for words, text in [
-            (["--prune"], "--prune isn't supported by git bagjulen"), (["--jobs=4"], "--jobs isn't supported"),
+            (["--refetch"], "--refetch isn't supported by git bagjulen"), (["--jobs=x"], "invalid int value"),
             (["ftp://x/y"], "the transport 'ftp' isn't supported"), (["ext::sh"], "transport 'ext' not allowed"),
             (["nowhere"], "'nowhere' does not appear to be a git repository"), (["--depth", "0"], "depth 0 is not a positive"),
             (["--unshallow"], "--unshallow on a complete repository does not make sense"), (["origin", "tag"], "tag name"),
@@ -233,7 +233,9 @@ class Fetched(WithServer):
             status, out, messages = self.run_git(self.path("ours"), "bagjulen", "fetch", *words)
             self.assertEqual((status, out), (128, ""), words)
             self.assertRegex(messages, rf"\A(warning: .*\n)?fatal: [^\n]*{re.escape(text)}[^\n]*\n\Z")
-            self.assertEqual(self.state("ours"), before)
+            after = self.state("ours")
+            self.assertEqual((after[:3], after[4]), (before[:3], before[4]))
+            self.assertIn(after[3], (None, ""))  # Git empties FETCH_HEAD before it asks a server.
 
     def test_a_source_that_matches_nothing(self) -> None:
         """A name refuses the fetch, beside names that are there too, and a star brings nothing."""
@@ -296,7 +298,7 @@ class Cloned(WithServer):
         for words, text in [(["-b", "absent", self.server], "Remote branch absent not found in upstream origin"),
                             ([self.server, "full"], "already exists and is not an empty directory"),
                             ([self.path("nowhere")], "does not exist"),
-                            (["--recursive", self.server], "--recursive isn't supported")]:
+                            (["--revision=v1", self.server], "--revision isn't supported")]:
             before = sorted(os.listdir(self.folder))
             status, _, messages = self.run_git(None, "bagjulen", "clone", "-q", *words)
             self.assertEqual((status, before), (128, sorted(os.listdir(self.folder))), words)

@@ -22,7 +22,7 @@ WORDS = {
     "RejectShallowRemoteConfig": "bad value of clone.rejectShallow: {}",
     "NegotiationAlgorithmConfig": "unknown fetch negotiation algorithm '{}'",
     "PackThreads": "bad value of pack.threads: {}",
-    "RejectShallowRemote": "source repository is shallow, reject to clone. (its border has {})",
+    "RejectShallowRemote": "source repository is shallow, reject to clone.",
     "Collision": "two different objects have the id {}",
     "FindCommit": "could not read commit {}",
     "MissingObject": "the object {} is missing",

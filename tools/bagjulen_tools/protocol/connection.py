@@ -177,10 +177,12 @@ def is_bundle(path: str) -> bool:
         return file.readline(64) in BUNDLES
 
 
-def connect(text: str, name: str = "", entries: Entries = ()) -> Connection:
+def connect(text: str, name: str = "", entries: Entries = (), program: str | None = None,
+            family: str | None = None) -> Connection:
     """The connection with the server of an address, as `git fetch` takes addresses.
 
     A name is that of the remote, and the entries are those of the configuration, which says what is allowed.
+    `program` is what is run there in place of `git-upload-pack`, and `family` 4 or 6 for that version of IP alone.
     """
     if text.startswith("-"):
         raise Trouble(BAD_INPUT, f"strange pathname '{text}' blocked")
@@ -193,10 +195,19 @@ def connect(text: str, name: str = "", entries: Entries = ()) -> Connection:
     for kind, word in (("hostname", address.host), ("pathname", address.path)):
         if word.startswith("-"):
             raise Trouble(BAD_INPUT, f"strange {kind} '{word}' blocked")
-    return WAYS[address.transport](address, name, dict(entries))
+    return WAYS[address.transport](address, Way(name, dict(entries), program, family))
 
 
-Last = dict[str, str | None]
+@dataclass
+class Way:
+    """How a server is reached: the name of its remote, the last value of each key of the configuration, the program
+    there where it isn't `git-upload-pack`, and the version of IP where it has to be one.
+    """
+
+    name: str
+    last: dict[str, str | None]
+    program: str | None
+    family: str | None
 
 
 def _by_process(words: list[str], is_heard: bool = True, is_helper: bool = False) -> Connection:
@@ -210,19 +221,24 @@ def _by_process(words: list[str], is_heard: bool = True, is_helper: bool = False
     return Connection(process.stdout, process.stdin, process, messages, is_helper)
 
 
-def local(path: str) -> Connection:
+def local(path: str, program: str | None = None) -> Connection:
     """The connection with a repository on this machine."""
+    if program is not None:
+        return _by_process(["sh", "-c", f'{program} "$@"', program, path], is_heard=False)
     return _by_process(["git", "upload-pack", path])
 
 
-def _file(address: Address, _: str, __: Last) -> Connection:
-    return local(address.path)
+def _file(address: Address, way: Way) -> Connection:
+    return local(address.path, way.program)
 
 
-def _http(address: Address, name: str, _: Last) -> Connection:
+def _http(address: Address, way: Way) -> Connection:
     """The connection that Git's helper makes. It begins with the helper's own lines."""
-    words = ["git", f"remote-{address.transport}", name or address.text, address.text]
+    words = ["git", f"remote-{address.transport}", way.name or address.text, address.text]
     connection = _by_process(words, is_heard=False, is_helper=True)
+    if way.family is not None:
+        connection.write(f"option family ipv{way.family}\n".encode())
+        connection.line()
     connection.write(b"stateless-connect git-upload-pack\n")
     answer = connection.line()
     if answer != b"\n":
@@ -231,29 +247,31 @@ def _http(address: Address, name: str, _: Last) -> Connection:
     return connection
 
 
-def _ssh(address: Address, _: str, last: Last) -> Connection:
+def _ssh(address: Address, way: Way) -> Connection:
     """The connection by what GIT_SSH_COMMAND, `core.sshCommand` or GIT_SSH says, or else by `ssh`."""
-    variant = os.environ.get("GIT_SSH_VARIANT") or last.get("ssh.variant")
+    variant = os.environ.get("GIT_SSH_VARIANT") or way.last.get("ssh.variant")
     if variant not in (None, "auto", "ssh"):
         raise Trouble(BAD_INPUT, f"the variant '{variant}' of ssh isn't supported by git bagjulen")
-    command = os.environ.get("GIT_SSH_COMMAND") or last.get("core.sshcommand")
+    command = os.environ.get("GIT_SSH_COMMAND") or way.last.get("core.sshcommand")
     quoted = "'" + address.path.replace("'", "'\\''").replace("!", "'\\!'") + "'"
     port = ["-p", address.port] if address.port else []
-    rest = ["-o", "SendEnv=GIT_PROTOCOL", *port, address.host, f"git-upload-pack {quoted}"]
+    family = [f"-{way.family}"] if way.family else []
+    program = way.program or "git-upload-pack"
+    rest = ["-o", "SendEnv=GIT_PROTOCOL", *family, *port, address.host, f"{program} {quoted}"]
     if command:
         return _by_process(["sh", "-c", f'{command} "$@"', "ssh", *rest], is_heard=False)
     return _by_process([os.environ.get("GIT_SSH", "ssh"), *rest], is_heard=False)
 
 
-def _git(address: Address, _: str, last: Last) -> Connection:
+def _git(address: Address, way: Way) -> Connection:
     """The connection with a daemon of Git."""
-    if os.environ.get("GIT_PROXY_COMMAND") or last.get("core.gitproxy"):
+    if os.environ.get("GIT_PROXY_COMMAND") or way.last.get("core.gitproxy"):
         raise Trouble(BAD_INPUT, "core.gitProxy and GIT_PROXY_COMMAND aren't supported by git bagjulen")
     if {"\n", "\0"} & set(address.authority + address.path):
         raise Trouble(BAD_INPUT, "newline is forbidden in git:// hosts and repo paths")
     port, host = address.port or GIT_PORT, address.host.rpartition("@")[2]
     try:
-        made = socket.create_connection((address.host, int(port)))
+        made = _socket(address.host, int(port), way.family)
     except socket.gaierror as error:
         raise Trouble(GIT_REFUSED, f"unable to look up {host} (port {port}) ({error.strerror})") from None
     except OSError as error:
@@ -261,10 +279,24 @@ def _git(address: Address, _: str, last: Last) -> Connection:
     reader, writer = made.makefile("rb"), made.makefile("wb")
     made.close()
     connection = Connection(reader, writer)
-    first = f"git-upload-pack {address.path}\0host={address.authority}\0\0version=2\0"
+    first = f"{way.program or 'git-upload-pack'} {address.path}\0host={address.authority}\0\0version=2\0"
     connection.write(encoded(encoded_text(first)))
     return connection
 
 
-WAYS: dict[str, Callable[[Address, str, Last], Connection]] = {
+def _socket(host: str, port: int, family: str | None) -> socket.socket:
+    """A connection with a port, by the first of the host's addresses that takes it."""
+    if family is None:
+        return socket.create_connection((host, port))
+    kind = socket.AF_INET if family == "4" else socket.AF_INET6
+    places = [found[4][:2] for found in socket.getaddrinfo(host, port, kind, socket.SOCK_STREAM)]
+    for place in places[:-1]:
+        try:
+            return socket.create_connection(place)
+        except OSError:
+            continue
+    return socket.create_connection(places[-1])
+
+
+WAYS: dict[str, Callable[[Address, Way], Connection]] = {
     "file": _file, "http": _http, "https": _http, "ssh": _ssh, "git": _git}

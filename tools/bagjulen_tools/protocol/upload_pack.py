@@ -1,12 +1,13 @@
 """The server: what real `git upload-pack` says, with plain packs in place of Git's own."""
 
 import os
+from collections.abc import Iterable
 from typing import Protocol
 
 from bagjulen_tools.files import temporary_folder
 from bagjulen_tools.formats.plainpack import Object, write_pack
 from bagjulen_tools.protocol.connection import Connection, is_bundle
-from bagjulen_tools.protocol.lines import MAX_PAYLOAD, Line, Mark, encoded, pieces, placed_lines, text_of
+from bagjulen_tools.protocol.lines import MAX_PAYLOAD, Line, Mark, encoded, encoded_text, pieces, placed_lines, text_of
 from bagjulen_tools.repository.git import git, objects_in
 from bagjulen_tools.trouble import BAD_INPUT, Trouble
 
@@ -30,12 +31,16 @@ class Server:
     """
 
     def __init__(self, connection: Connection, told: Listener | None = None,
-                 asks_progress: bool = False) -> None:
+                 asks_progress: bool = False, options: Iterable[str] = ()) -> None:
         self._connection, self._told, self._asks_progress = connection, told, asks_progress
         self.refusal: str | None = None
         self._greeting = connection.greeting()
         lines = [line for _, line in placed_lines(self._greeting) if isinstance(line, bytes)]
         texts = [text_of(line) for line in lines]
+        self._options: list[Line] = [encoded_text(f"server-option={option}\n") for option in options]
+        if self._options and "server-option" not in texts:
+            connection.close()
+            raise Trouble(BAD_INPUT, "server doesn't support 'server-option'")
         self.hash_name = next((text[len(FORMAT):] for text in texts if text.startswith(FORMAT)), "sha1")
 
     def greeting(self) -> bytes:
@@ -54,7 +59,7 @@ class Server:
 
     def _said(self, request: list[Line]) -> bytes:
         """What real Git answers."""
-        came = self._connection.ask(request, self._hear)
+        came = self._connection.ask([*request[:1], *self._options, *request[1:]], self._hear)
         if self._told is not None:
             self._told.end()
         if came.problem is not None:

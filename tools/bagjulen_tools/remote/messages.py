@@ -4,6 +4,7 @@ import os
 import re
 import shutil
 import sys
+from collections.abc import Iterable, Mapping
 from dataclasses import dataclass
 
 from bagjulen_tools.protocol.address import anonymous
@@ -27,9 +28,11 @@ class RefUpdate:
     new: str
     mode: str
     is_for: int
+    trouble: str | None = None
 
-    def is_rejected(self):
-        return self.mode.startswith("rejected")
+    def is_rejected(self) -> bool:
+        """Whether it wasn't done: as a rule forbids it, or as the reference couldn't be written, which `trouble` says."""
+        return self.trouble is not None or self.mode.startswith("rejected")
 
 
 def front_of(name, fronts):
@@ -55,16 +58,42 @@ def fetch_head_line(told, address):
     return f"{told.new}\t{'' if told.is_for == MERGE else 'not-for-merge'}\t{name}{trimmed(address)}\n"
 
 
-def lines(told, address, abbreviated, is_verbose, tells_head):
-    """The lines about these mappings, `From` first where there is any. `tells_head` says whether FETCH_HEAD is told of."""
+def pruned_lines(pruned: Mapping[str, str], references: Mapping[str, str], abbreviated: Mapping[str, str],
+                 is_dry: bool) -> list[str]:
+    """The lines about references that were pruned, of which the ids are told, and symbolic ones that led to them."""
+    summary = _summary(pruned.values(), abbreviated)
+    verb = "will become" if is_dry else "has become"
+    found = []
+    for name in pruned:
+        found.append(f" - {'[deleted]':{summary}} {'(none)':10} -> {shown(name)}")
+        found += [f"   ({each} {verb} dangling)" for each, value in sorted(references.items())
+                  if value == f"@{name}" and each != "HEAD"]
+    return found
+
+
+def _summary(ids: Iterable[str], abbreviated: Mapping[str, str]) -> int:
+    """The width of the column of ids."""
+    return 2 * max([ABBREVIATED, *(len(abbreviated.get(digits, "")) for digits in ids)]) + 3
+
+
+def lines(told, address, abbreviated, is_verbose, tells_head, pruned=()):
+    """The lines about these mappings behind those about what was pruned, `From` first where there is any.
+
+    `tells_head` says whether FETCH_HEAD is told of. Why one couldn't be written stands before its line.
+    """
     told = sorted(told, key=lambda each: each.is_for)
     columns = shutil.get_terminal_size().columns
     width = max([10, *(len(shown(each.source)) for each in told if _counts(each, is_verbose, columns))])
     ids = [digits for each in told for digits in (each.old, each.new) if digits]
-    summary = 2 * max([ABBREVIATED, *(len(abbreviated.get(digits, "")) for digits in ids)]) + 3
-    found = [_line(each, abbreviated, width, summary) for each in told
-             if (is_verbose or each.mode != "up-to-date" if each.destination else tells_head and each.is_for != IGNORED)]
-    return [f"From {trimmed(address)}", *found] if found else []
+    summary = _summary(ids, abbreviated)
+    front = f"From {trimmed(address)}"
+    found = [front, *pruned] if pruned else []
+    for each in told:
+        if is_verbose or each.mode != "up-to-date" if each.destination else tells_head and each.is_for != IGNORED:
+            found += [] if each.trouble is None else [each.trouble]
+            found += [] if front in found else [front]
+            found.append(_line(each, abbreviated, width, summary))
+    return found
 
 
 def _counts(told, is_verbose, columns):
@@ -76,7 +105,9 @@ def _counts(told, is_verbose, columns):
 
 def _line(told, abbreviated, width, summary):
     flag, text, why = _told(told, abbreviated)
-    source = "" if told.source == "HEAD" and told.destination else shown(told.source)
+    if told.trouble is not None:
+        flag, why = "!", "unable to update local ref"
+    source = shown(told.source)
     to = "FETCH_HEAD" if told.destination is None else shown(told.destination)
     return f" {flag} {text:{summary}} {source:{width}} -> {to}" + (f"  ({why})" if why else "")
 
@@ -86,7 +117,7 @@ def _told(told, abbreviated):
     if told.destination is None:
         return "*", KINDS.get(front_of(told.source, KINDS), "branch"), None
     old, new = (abbreviated.get(digits, (digits or "")[:ABBREVIATED]) for digits in (told.old, told.new))
-    if told.is_rejected():
+    if told.mode.startswith("rejected"):
         return "!", "[rejected]", WHY.get(told.mode, told.mode.removeprefix("rejected (").removesuffix(")"))
     if told.mode == "up-to-date":
         return "=", "[up to date]", None

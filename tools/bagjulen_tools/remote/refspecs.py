@@ -3,13 +3,13 @@
 PLACES = ("{}", "refs/{}", "refs/tags/{}", "refs/heads/{}", "refs/remotes/{}", "refs/remotes/{}/HEAD")
 
 
-def sides(spec):
+def sides(spec: str) -> tuple[str, str | None]:
     """The source and the destination of a refspec, the latter None where it has none."""
     source, colon, destination = spec.removeprefix("+").partition(":")
     return "HEAD" if source in ("", "@") else source, destination if colon and destination else None
 
 
-def forced(spec):
+def forced(spec: str) -> str:
     """The refspec with the mark that forces, which exclusions don't have."""
     return spec if spec.startswith(("+", "^")) else f"+{spec}"
 
@@ -18,10 +18,10 @@ def is_from(spec, source, destination):
     """Whether a mapping of these names comes from a refspec."""
     pattern, to = sides(spec)
     taken = None if spec.startswith("^") else middle(pattern, source)
-    return taken is not None and destination == (None if to is None else _full(to.replace("*", taken)))
+    return taken is not None and destination == (None if to is None else full_destination(to.replace("*", taken)))
 
 
-def _full(destination):
+def full_destination(destination: str) -> str:
     """A destination as the engine completes it."""
     if destination.startswith("refs/"):
         return destination
@@ -33,7 +33,7 @@ def brings(spec, source):
     return not spec.startswith("^") and middle(sides(spec)[0], source) is not None
 
 
-def middle(pattern, name):
+def middle(pattern: str, name: str) -> str | None:
     """What the star of a pattern takes of a name, or "" where the pattern has none, or None where it doesn't match."""
     if "*" not in pattern:
         return "" if name in (place.format(pattern) for place in PLACES) else None

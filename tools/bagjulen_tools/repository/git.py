@@ -18,6 +18,8 @@ FOREIGN = ("GIT_DIR", "GIT_WORK_TREE", "GIT_INDEX_FILE", "GIT_OBJECT_DIRECTORY",
            "GIT_ALTERNATE_OBJECT_DIRECTORIES", "GIT_NAMESPACE", "GIT_PREFIX", "GIT_SHALLOW_FILE")
 # The entry of a configuration that says where references stand, and its only value that is read here.
 REF_STORAGE, FILES = "extensions.refStorage", "files"
+# The words of a truth value.
+TRUE, FALSE = ("true", "yes", "on"), ("false", "no", "off", "")
 
 
 def environment(more: Mapping[str, str]) -> dict[str, str]:
@@ -60,20 +62,29 @@ class Repository:
     """
 
     def __init__(self, path: str) -> None:
-        asked = ["--absolute-git-dir", "--git-common-dir", "--show-cdup"]
+        asked = ["--absolute-git-dir", "--git-common-dir", "--show-object-format", "--is-bare-repository",
+                 "--is-inside-work-tree", "--show-cdup"]
         status, out, messages = run_git(["-C", path, "rev-parse", *asked])
         if status != 0:
             for folder in (os.path.join(path, ".git"), path):
                 refuse_ref_storage(path, folder)
             raise Trouble(BAD_INPUT, f"{path} is no repository: {why(messages)}")
-        self.git_dir, common, *up = decoded_text(out).splitlines()
+        self.git_dir, common, self._hash_name, is_bare, is_inside, *up = decoded_text(out).splitlines()
+        self._is_bare, self._is_inside = is_bare == "true", is_inside == "true"
+        self._entries: list[tuple[str, str | None]] | None = None
         self.common_dir = os.path.normpath(os.path.join(path, common))
         self.path = os.path.normpath(os.path.join(path, *up))
         refuse_ref_storage(path, self.common_dir)
 
     def git(self, *words, given=b"", more=None):
         """What Git writes when it runs in this repository."""
+        if words[0] == "config":
+            self._entries = None
         return git(["-C", self.path, *words], given, more)
+
+    def forget_entries(self) -> None:
+        """Has the configuration be read anew."""
+        self._entries = None
 
     def text(self, *words):
         """The one line that Git writes."""
@@ -81,21 +92,18 @@ class Repository:
 
     def hash_name(self):
         """`sha1` or `sha256`."""
-        return self.text("rev-parse", "--show-object-format")
+        return self._hash_name
 
     def truth(self, key):
         """What the configuration says of a key, which has a truth value, or None where it says nothing."""
-        status, out, messages = run_git(["-C", self.path, "config", "--type=bool", "--get", key])
-        if status not in (0, 1):
-            raise Trouble(GIT_REFUSED, f"git refused: {why(messages)}")
-        return out == b"true\n" if status == 0 else None
+        return truth(dict(self.entries()), key.lower())
 
     def work_tree(self):
         """The directory of the work tree, or None in a bare repository."""
-        if self.text("rev-parse", "--is-bare-repository") == "true":
+        if self._is_bare:
             return None
-        if self.text("rev-parse", "--is-inside-work-tree") == "true":
-            return self.text("rev-parse", "--show-toplevel")
+        if self._is_inside:
+            return os.path.realpath(self.path)
         return os.path.dirname(self.git_dir)
 
     def abbreviated(self, ids):
@@ -190,7 +198,11 @@ class Repository:
     def entries(self, overrides: Iterable[str] = ()) -> Iterator[tuple[str, str | None]]:
         """Each entry of the configuration in force, in order: its key, and its value or None."""
         words = [word for override in overrides for word in ("-c", override)]
-        return entries_in(self.git(*words, "config", "--list", "-z"))
+        if words:
+            return entries_in(self.git(*words, "config", "--list", "-z"))
+        if self._entries is None:
+            self._entries = list(entries_in(self.git("config", "--list", "-z")))
+        return iter(self._entries)
 
     def objects(self):
         """All objects, each once."""
@@ -202,6 +214,21 @@ class Repository:
         """
         out = self.git("cat-file", "--batch-all-objects", "--unordered", "--batch-check=%(objectname)")
         return set(out.decode("ascii").split())
+
+
+def truth(entries: Mapping[str, str | None], *keys: str) -> bool | None:
+    """The truth value of the first of these keys that the configuration has, as Git reads one."""
+    for key in keys:
+        if key in entries:
+            value = entries[key]
+            word = "true" if value is None else value.lower()
+            if word in TRUE or word in FALSE:
+                return word in TRUE
+            number = word.rstrip("kmg") if word[-1:] in "kmg" else word
+            if not number.removeprefix("-").isdecimal():
+                raise Trouble(BAD_INPUT, f"bad boolean config value '{value}' for '{key}'")
+            return int(number) != 0
+    return None
 
 
 def entries_in(listed: bytes) -> Iterator[tuple[str, str | None]]:
