@@ -15,7 +15,7 @@ from bagjulen_tools.trouble import DIFFERENT, DONE, ToolParser
 
 README = "README.md"
 LINES = {README: 110}
-WORDS = {README: 1_000, "docs/REAL-GIT.md": 2_200, "docs/PROVED.md": 1_700, "docs/DECISIONS.md": 1_900, "docs/SCENES.md": 2_100}
+WORDS = {README: 1_000, "docs/REAL-GIT.md": 2_400, "docs/PROVED.md": 1_700, "docs/DECISIONS.md": 1_900, "docs/SCENES.md": 2_100}
 REFERENCE = {f"docs/{name}.md" for name in ("POLICY", "REFUSALS", "USING", "FORMATS", "DIFFERENCES")} | {"CHANGELOG.md"}
 OF_A_PAGE, OF_A_CRATE, OF_A_PROMISE = 1_500, 900, 25
 OF_ROWS = "rows/README.md"
