@@ -1,6 +1,6 @@
 //! Objects, and what they say.
 
-ghost use Rattle.std.specs.Prelude.{◌≡◌, ◌↔◌, ◌≤◌, ◌++◌, [], OnOk, length, IsOk, IfOk, IfErr, List, ℕ, if◌then◌else◌};
+ghost use Rattle.std.specs.Prelude.{◌≡◌, ◌↔◌, ◌≤◌, ◌++◌, [], OnOk, OnErr, length, IsOk, IfOk, IfErr, List, ℕ, if◌then◌else◌};
 ghost use Rattle.std.specs.Iterator.{YieldsFirst, item_count};
 ghost use Rattle.std.specs.Option.{option_to_list};
 ghost use Rattle.fetch_objects.specs.Objects as spec;
@@ -244,13 +244,15 @@ impl<'a> ObjectRef<'a> {
     }
 }
 
-/// A commit's parents and its seconds, read at once. Other objects have none, and aren't read.
+/// A commit's parents and its seconds, read at once. Other objects have none, and aren't read. Memory is taken for the
+/// parents but the first, so that it may run out where there are two or more.
 pub fn read_history(
     alloc: Global,
     object: ObjectRef<'_>,
 ) -> Result<(ParentIds, Option<u64>), NoMemory>
     ensures parents { let o = seen object.entry in IfOk result (λ history. history.0 ≡ spec.parents_of o.hash o.kind o.bytes) }
     ensures seconds { let o = seen object.entry in IfOk result (λ history. history.1 ≡ spec.seconds_of o.hash o.kind o.bytes) }
+    ensures memory { let o = seen object.entry in OnErr result (2 ≤ length (spec.parents_of o.hash o.kind o.bytes)) }
 {
     match object.kind {
         ObjectKind::Commit => read_parts(alloc, object),
@@ -261,6 +263,7 @@ pub fn read_history(
 fn read_parts(alloc: Global, object: ObjectRef<'_>) -> Result<(ParentIds, Option<u64>), NoMemory>
     ensures parents { let o = seen object.entry in IfOk result (λ history. history.0 ≡ spec.parents_of o.hash o.kind o.bytes) }
     ensures seconds { let o = seen object.entry in IfOk result (λ history. history.1 ≡ spec.seconds_of o.hash o.kind o.bytes) }
+    ensures memory { let o = seen object.entry in OnErr result (2 ≤ length (spec.parents_of o.hash o.kind o.bytes)) }
 {
     let mut parents = ParentIds::new(alloc);
     let mut seconds: Option<u64> = None;
@@ -275,9 +278,11 @@ fn read_parts(alloc: Global, object: ObjectRef<'_>) -> Result<(ParentIds, Option
     Ok((parents, seconds))
 }
 
-/// Puts the parent that a part names, if it does, after the others.
+/// Puts the parent that a part names, if it does, after the others. After an error these are as before.
 fn push_parent(parents: &mut ParentIds, part: Part) -> Result<(), NoMemory>
-    ensures { OnOk result (parents.new ≡ parents.old ++ option_to_list (spec.parent_in part)) }
+    ensures ok { OnOk result (parents.new ≡ parents.old ++ option_to_list (spec.parent_in part)) }
+    ensures err { OnErr result (parents.new ≡ parents.old) }
+    ensures memory { OnErr result (2 ≤ length (parents.old ++ option_to_list (spec.parent_in part))) }
 {
     if let Part::Parent(id) = part {
         parents.push(id)?;

@@ -1,6 +1,6 @@
 //! The parents of a commit, of which most have one.
 
-ghost use Rattle.std.specs.Prelude.{◌≡◌, ◌∷◌, ◌++◌, [], IfOk, OnOk, slice_get};
+ghost use Rattle.std.specs.Prelude.{◌≡◌, ◌≤◌, ◌∷◌, ◌++◌, [], OnOk, OnErr, length, slice_get};
 ghost use Rattle.fetch_objects.specs.References.{parents_left};
 
 use crate::parents::Parents;
@@ -42,9 +42,11 @@ impl ParentIds {
         }
     }
 
-    /// Puts an id after the others.
+    /// Puts an id after the others. The first takes no memory, and is never refused. After an error the ids are as before.
     pub fn push(&mut self, id: ObjectId) -> Result<(), NoMemory>
-        ensures { OnOk result (self.new ≡ self.old ++ id ∷ []) }
+        ensures ok { OnOk result (self.new ≡ self.old ++ id ∷ []) }
+        ensures err { OnErr result (self.new ≡ self.old) }
+        ensures memory { OnErr result (1 ≤ length self.old) }
     {
         match self.first {
             None => self.first = Some(id),

@@ -10,4 +10,5 @@ returns-in-Tree c =
     record {
       parents = c.new.ensures ∙ sym (no_parents o.hash (first_of o.kind) o.bytes.now quiet);
       seconds = sym (no_seconds o.hash (first_of o.kind) o.bytes.now quiet);
+      memory = tt;
     }
