@@ -32,7 +32,7 @@ pub enum StoreError {
     #[error("malformed object at byte {place}")]
     MalformedObject { kind: ObjectKind, place: usize },
     /// Two objects with other bytes have this id.
-    #[error("another object has this id")]
+    #[error("another object has the id {id}")]
     Collision { id: ObjectId },
     /// Memory ran out.
     #[error("out of memory")]

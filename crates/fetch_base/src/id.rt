@@ -10,6 +10,7 @@ use crate::error::{NoMemory, StoreError};
 use crate::hex_digits::decode;
 use crate::text::Text;
 use std::alloc::Global;
+use std::fmt;
 
 /// The hash that names objects.
 #[derive(Clone, Copy, Debug, PartialEq, Eq, PartialOrd, Ord)]
@@ -33,7 +34,7 @@ impl Kind {
 }
 
 /// An object's name: the hash of its text.
-#[derive(Clone, Copy, Debug, PartialEq, Eq, PartialOrd, Ord)]
+#[derive(Clone, Copy, PartialEq, Eq, PartialOrd, Ord)]
 pub enum ObjectId {
     /// A name by SHA-1.
     Sha1([u8; 20]),
@@ -126,6 +127,23 @@ impl ObjectId {
     {
         let digits = hex::encode(alloc, self.as_bytes())?;
         Ok(Text::new(alloc, digits.as_bytes())?)
+    }
+}
+
+/// Its hexadecimal digits, in lower case.
+impl fmt::Display for ObjectId {
+    fn fmt<W: fmt::Write>(&self, f: &mut fmt::Formatter<W>) -> fmt::Result {
+        for byte in self.as_bytes() {
+            write!(f, "{byte:02x}")?;
+        }
+        Ok(())
+    }
+}
+
+/// The same.
+impl fmt::Debug for ObjectId {
+    fn fmt<W: fmt::Write>(&self, f: &mut fmt::Formatter<W>) -> fmt::Result {
+        fmt::Display::fmt(self, f)
     }
 }
 

@@ -12,11 +12,12 @@ ghost use Rattle.std.specs.Str.{bytes_eq};
 use crate::error::NoMemory;
 use std::alloc::Global;
 use std::cmp::Ordering;
+use std::fmt;
 use std::hash::{Hash, Hasher};
 use std::marker::Model;
 
 /// A text of bytes, in no particular encoding. Contracts see it as the list of its bytes.
-#[derive(Debug, Drop)]
+#[derive(Drop)]
 pub struct Text {
     bytes: Vec<u8>,
 }
@@ -72,6 +73,20 @@ impl Text {
         Ok(Text {
             bytes: self.bytes.clone()?,
         })
+    }
+}
+
+/// Bytes of printable ASCII as they are, and each other as an escape, as `escape_ascii` writes them.
+impl fmt::Display for Text {
+    fn fmt<W: fmt::Write>(&self, f: &mut fmt::Formatter<W>) -> fmt::Result {
+        fmt::Display::fmt(&self.as_bytes().escape_ascii(), f)
+    }
+}
+
+/// The same, between quotation marks.
+impl fmt::Debug for Text {
+    fn fmt<W: fmt::Write>(&self, f: &mut fmt::Formatter<W>) -> fmt::Result {
+        write!(f, "\"{}\"", self.as_bytes().escape_ascii())
     }
 }
 
