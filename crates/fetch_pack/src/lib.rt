@@ -13,4 +13,4 @@ pub use error::PackError;
 pub use hashing::{Gate, hash_pieces};
 pub use reading::{Pack, keeps_each_once, read_pack, read_pack_gated};
 pub use version::PackVersion;
-pub use writing::{write_pack, write_pack_of};
+pub use writing::{append_head, code_of, write_pack, write_pack_of};

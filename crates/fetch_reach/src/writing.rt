@@ -11,8 +11,8 @@ ghost use Rattle.fetch_pack.specs.declared.version.PackVersion.TheVariants.{V1};
 ghost use Rattle.fetch_reach.specs.Named.{IsOwnId};
 ghost use Rattle.fetch_reach.specs.Stored.{CanHold, objects_at};
 
-use fetch_pack::PackVersion;
-use fetch_store::{NoMemory, ObjectId, ObjectKind, ObjectRef, Store, digest};
+use fetch_pack::{PackVersion, append_head, code_of};
+use fetch_store::{NoMemory, ObjectId, ObjectRef, Store, digest};
 
 /// Writes a pack of the objects at these ids at the end, in their order, and answers its digest. No object is hashed:
 /// each id is its object's hash already, and stands in version 2 as it is. The only refusal is out of memory, and it
@@ -89,20 +89,6 @@ fn append_body(
     Ok(())
 }
 
-/// Appends the mark, the version and the count.
-fn append_head(version: PackVersion, count: u32, out: &mut Vec<u8>) -> Result<(), NoMemory>
-    ensures head { OnOk result (out.new.items ≡ out.old.items ++ spec.head_of version count) }
-    ensures keeps { OnErr result (Keeps out.old.items out.new.items) }
-{
-    out.extend_from_slice(b"PLNP")?;
-    match version {
-        PackVersion::V1 => out.extend_from_slice(b"\0\0\0\x01")?,
-        PackVersion::V2 => out.extend_from_slice(b"\0\0\0\x02")?,
-    }
-    out.extend_from_slice(&count.to_be_bytes())?;
-    Ok(())
-}
-
 /// Appends an object with its id before it, where the version has ids.
 fn append_record(
     version: PackVersion,
@@ -127,15 +113,4 @@ fn append_record(
     }
     out.extend_from_slice(bytes)?;
     Ok(())
-}
-
-fn code_of(kind: ObjectKind) -> u8
-    ensures { result ≡ spec.code_of kind }
-{
-    match kind {
-        ObjectKind::Commit => 1,
-        ObjectKind::Tree => 2,
-        ObjectKind::Blob => 3,
-        ObjectKind::Tag => 4,
-    }
 }
