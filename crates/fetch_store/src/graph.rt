@@ -86,8 +86,8 @@ impl Graph {
         Ok(Graph { nodes, starts })
     }
 
-    /// The graph that the store would have with the list added. The store stays as it is. The only
-    /// error is out of memory.
+    /// The graph that the store would have with the list added. Store and list are only read: after
+    /// an error there is no graph, and both are as they were. The only error is out of memory.
     pub fn of_added(
         alloc: Global,
         store: &Store,
