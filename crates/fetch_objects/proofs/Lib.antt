@@ -6,3 +6,4 @@ pub mod Places
 pub mod LinkCounts
 pub mod Silent
 pub mod LinkLaws
+pub mod MarkedLinks

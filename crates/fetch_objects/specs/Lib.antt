@@ -7,3 +7,4 @@ pub mod Texts
 pub mod TreeTexts
 pub mod CommitTexts
 pub mod Places
+pub mod MarkedLinks

@@ -40,6 +40,24 @@ impl Object {
         ensures refused { IfErr result (λ e. e ≡ errors.MalformedObject object_kind (spec.place_of kind object_kind bytes.items)) }
     {
         let (expected, left) = end_of_parts(kind, object_kind, bytes.as_slice());
+        Object::ended(kind, object_kind, bytes, expected, left)
+    }
+
+    /// The object of these bytes, where a text may end as they do.
+    pub(crate) fn ended(
+        kind: Kind,
+        object_kind: ObjectKind,
+        bytes: Vec<u8>,
+        expected: Expected,
+        left: usize,
+    ) -> Result<Object, StoreError>
+        requires expected { expected ≡ (spec.reading_of kind object_kind bytes.items).expected }
+        requires left { left ≡ length (spec.reading_of kind object_kind bytes.items).rest }
+        requires within { left ≤ length bytes.items }
+        ensures accepted { IsOk result ↔ spec.IsObject kind object_kind bytes.items }
+        ensures object { IfOk result (λ o. o ≡ record { hash = kind; kind = object_kind; bytes = bytes.items }) }
+        ensures refused { IfErr result (λ e. e ≡ errors.MalformedObject object_kind (spec.place_of kind object_kind bytes.items)) }
+    {
         if may_end(expected, left) {
             Ok(Object {
                 hash: kind,
@@ -114,7 +132,7 @@ fn end_of_parts(hash: Kind, kind: ObjectKind, bytes: &[u8]) -> (Expected, usize)
     (expected, rest.len())
 }
 
-fn first_of(kind: ObjectKind) -> Expected
+pub(crate) fn first_of(kind: ObjectKind) -> Expected
     ensures { result ≡ spec.first_of kind }
 {
     match kind {
@@ -149,6 +167,21 @@ impl<'a> ObjectRef<'a> {
         ensures { seen result ≡ record { hash = hash; kind = kind; bytes = bytes.now } }
     {
         ObjectRef { hash, kind, bytes }
+    }
+
+    /// Its hash, its kind and its bytes.
+    pub(crate) fn parts(&self) -> (Kind, ObjectKind, &'a [u8])
+        ensures { (result.0 ≡ (seen self.now).hash) × (result.1 ≡ (seen self.now).kind) × (result.2.now ≡ (seen self.now).bytes) }
+    {
+        (self.hash, self.kind, self.bytes)
+    }
+
+    /// Whether the bytes are in the grammar of the kind. Takes no memory.
+    pub fn is_in_grammar(&self) -> bool
+        ensures { let o = seen self.now in result ≡ spec.is_object o.hash o.kind o.bytes }
+    {
+        let (expected, left) = end_of_parts(self.hash, self.kind, self.bytes);
+        may_end(expected, left)
     }
 
     /// Whether the other object has the same kind and the same bytes.
