@@ -5,6 +5,7 @@ pub mod Names
 pub mod Overlays
 pub mod Undoing
 pub mod Standing
+pub mod FullNames
 pub mod Packs
 pub mod Sifted
 pub mod GainedLines

@@ -1,6 +1,7 @@
 pub mod Targets
 pub mod Codes
 pub mod Names
+pub mod Full
 pub mod Expectations
 pub mod Edits
 pub mod Laws

@@ -1,13 +1,17 @@
 //! References in the order of their names.
 
-ghost use Rattle.std.specs.Prelude.{◌≡◌, length};
+ghost use Rattle.std.specs.Prelude.{◌≡◌, IfSome, is_some, length};
+ghost use Rattle.std.specs.BTreeMap.{IsOrdered};
 ghost use Rattle.std.specs.FinMap as map;
 ghost use Rattle.std.specs.Iterator.{YieldsFirstBy, item_count};
+ghost use Rattle.std.specs.List.{AllByRecursion};
+ghost use Rattle.fetch_refs.specs.Full.{IsFull};
 ghost use Rattle.fetch_refs.specs.Iter.{left, shown, standing_in};
+ghost use Rattle.fetch_refs.specs.Names.{name_cmp};
 
 use crate::refs::Refs;
 use crate::slot::Slot;
-use crate::target::TargetRef;
+use crate::target::{Target, TargetRef};
 use fetch_specs::FullName;
 use std::collections::{BTreeMap, btree_map};
 use std::marker::Model;
@@ -36,9 +40,10 @@ impl<'a> Model for RefIter<'a> {
 }
 
 impl Refs {
-    /// The references by ascending name. This takes no memory.
+    /// The references by ascending name. Their names, and those that they lead to, are full. This takes no memory.
     pub fn iter(&self) -> RefIter<'_>
-        ensures { left result ≡ map.entries self.now.names }
+        ensures items { left result ≡ map.entries self.now.names }
+        ensures full { AllByRecursion IsFull (map.entries self.now.names) }
     {
         RefIter {
             entries: self.contents.names.iter(),
@@ -49,17 +54,35 @@ impl Refs {
 
 /// How many places hold a value.
 fn count_of(names: &BTreeMap<FullName, Slot>) -> usize
-    ensures { result ≡ length (standing_in names.now.entries) }
+    ensures count { result ≡ length (standing_in names.now.entries) }
+    ensures full { AllByRecursion IsFull (standing_in names.now.entries) }
+    ensures ordered { IsOrdered name_cmp names.now }
 {
     // No more than there are places.
     let _places = names.len();
     let mut count = 0;
     'places: for entry in names {
-        if entry.1.value.is_some() {
+        if stands_at(entry.0, &entry.1.value) {
             count += 1;
         }
     }
     count
+}
+
+/// Whether a reference stands at the name. The names' own clauses say that they are full.
+fn stands_at(name: &FullName, value: &Option<Target>) -> bool
+    ensures stands { result ≡ is_some value.now }
+    ensures full { IfSome value.now (λ target. IsFull (name.now, target)) }
+{
+    let _name = name.as_bytes();
+    match value {
+        Some(Target::Object(_)) => true,
+        Some(Target::Symbolic(target)) => {
+            let _target = target.as_bytes();
+            true
+        }
+        None => false,
+    }
 }
 
 /// The first reference of the places that are left.
