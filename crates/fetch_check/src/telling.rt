@@ -1,6 +1,7 @@
 //! Findings as a text.
 
-ghost use Rattle.std.specs.Prelude.{◌≡◌, ◌++◌, IfOk, OnOk, codes};
+ghost use Rattle.std.specs.Prelude.{◌≡◌, ◌++◌, IfOk, OnErr, OnOk, codes};
+ghost use Rattle.fetch_pack.specs.Texts.{Keeps};
 ghost use Rattle.fetch_check.specs.Telling as spec;
 ghost use Rattle.fetch_check.specs.Telling.{findings_status, findings_text};
 
@@ -9,11 +10,28 @@ use fetch_store::{Missing, NoMemory, ObjectId, append_hex, append_number};
 
 /// Puts the findings after what is there, and answers a status: 0 where there are none, else 1. Each has a line, in the
 /// order of `Findings`: `missing <from> <to>`; `broken <name> <cause>`, with the cause's id behind it where it has
-/// one; `unreached <id>`. A last line says `ok` where there are none, else `found <count>`. After an error a part of
-/// it may stand there.
+/// one; `unreached <id>`. A last line says `ok` where there are none, else `found <count>`. After an error the output
+/// is as before.
 pub fn append_findings(out: &mut Vec<u8>, findings: &Findings) -> Result<u8, NoMemory>
     ensures text { OnOk result (out.new.items ≡ out.old.items ++ findings_text findings.now) }
     ensures status { IfOk result (λ status. status ≡ findings_status findings.now) }
+    ensures err { OnErr result (out.new.items ≡ out.old.items) }
+{
+    let start = out.len();
+    match append_lines(out, findings) {
+        Ok(status) => Ok(status),
+        Err(e) => {
+            out.truncate(start);
+            Err(e)
+        }
+    }
+}
+
+/// The lines of all findings, and the last line.
+fn append_lines(out: &mut Vec<u8>, findings: &Findings) -> Result<u8, NoMemory>
+    ensures text { OnOk result (out.new.items ≡ out.old.items ++ findings_text findings.now) }
+    ensures status { IfOk result (λ status. status ≡ findings_status findings.now) }
+    ensures keeps { OnErr result (Keeps out.old.items out.new.items) }
 {
     for link in findings.missing.as_slice() {
         append_missing(out, link)?;
@@ -30,7 +48,8 @@ pub fn append_findings(out: &mut Vec<u8>, findings: &Findings) -> Result<u8, NoM
 }
 
 fn append_missing(out: &mut Vec<u8>, link: &Missing) -> Result<(), NoMemory>
-    ensures { OnOk result (out.new.items ≡ out.old.items ++ spec.missing_line link.now) }
+    ensures text { OnOk result (out.new.items ≡ out.old.items ++ spec.missing_line link.now) }
+    ensures keeps { OnErr result (Keeps out.old.items out.new.items) }
 {
     out.extend_from_slice(b"missing ")?;
     append_hex(out, &link.from)?;
@@ -41,7 +60,8 @@ fn append_missing(out: &mut Vec<u8>, link: &Missing) -> Result<(), NoMemory>
 }
 
 fn append_broken(out: &mut Vec<u8>, reference: &Broken) -> Result<(), NoMemory>
-    ensures { OnOk result (out.new.items ≡ out.old.items ++ spec.broken_line reference.now) }
+    ensures text { OnOk result (out.new.items ≡ out.old.items ++ spec.broken_line reference.now) }
+    ensures keeps { OnErr result (Keeps out.old.items out.new.items) }
 {
     out.extend_from_slice(b"broken ")?;
     out.extend_from_slice(reference.name.as_bytes())?;
@@ -51,7 +71,8 @@ fn append_broken(out: &mut Vec<u8>, reference: &Broken) -> Result<(), NoMemory>
 }
 
 fn append_cause(out: &mut Vec<u8>, cause: &BrokenCause) -> Result<(), NoMemory>
-    ensures { OnOk result (out.new.items ≡ out.old.items ++ spec.cause_text cause.now) }
+    ensures text { OnOk result (out.new.items ≡ out.old.items ++ spec.cause_text cause.now) }
+    ensures keeps { OnErr result (Keeps out.old.items out.new.items) }
 {
     match cause {
         BrokenCause::Cycle => out.extend_from_slice(b" Cycle")?,
@@ -69,7 +90,8 @@ fn append_cause(out: &mut Vec<u8>, cause: &BrokenCause) -> Result<(), NoMemory>
 }
 
 fn append_unreached(out: &mut Vec<u8>, id: &ObjectId) -> Result<(), NoMemory>
-    ensures { OnOk result (out.new.items ≡ out.old.items ++ spec.unreached_line id.now) }
+    ensures text { OnOk result (out.new.items ≡ out.old.items ++ spec.unreached_line id.now) }
+    ensures keeps { OnErr result (Keeps out.old.items out.new.items) }
 {
     out.extend_from_slice(b"unreached ")?;
     append_hex(out, id)?;
@@ -81,6 +103,7 @@ fn append_unreached(out: &mut Vec<u8>, id: &ObjectId) -> Result<(), NoMemory>
 fn append_count(out: &mut Vec<u8>, count: usize) -> Result<u8, NoMemory>
     ensures text { OnOk result (out.new.items ≡ out.old.items ++ spec.end_line count) }
     ensures status { IfOk result (λ status. status ≡ spec.status_of count) }
+    ensures keeps { OnErr result (Keeps out.old.items out.new.items) }
 {
     if count == 0 {
         out.extend_from_slice(b"ok\n")?;
