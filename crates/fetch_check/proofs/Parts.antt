@@ -308,16 +308,11 @@ module _ (names : Names) (h : Holding) (ids : List ObjectId) (reached : AreReach
           ((tags_end (graph_of h.objects) id (through (graph_of h.objects) (finmap.len (graph_of h.objects)) [] id)).0 refl) none
 
   broken_part : (e : Reference) → finmap.get names e.0 ≡ Some e.1 → broken_at names h.objects e ≡ None → broken_at names part e ≡ None
-  broken_part e is none = by_test (is_full_name e.0) none
+  broken_part e is none = ap (option_map {U = Broken} (λ (cause : BrokenCause). record { name = e.0; cause = cause })) (cause_part e.0 e.1 is (no_cause (cause_of names h.objects e) none))
     where
       no_cause : (c : Option BrokenCause) → option_map {U = Broken} (λ (cause : BrokenCause). record { name = e.0; cause = cause }) c ≡ None → c ≡ None
       no_cause None n = refl
       no_cause (Some c) n = absurd cc
-
-      by_test : (b : Bool) → (if b then option_map {U = Broken} (λ (cause : BrokenCause). record { name = e.0; cause = cause }) (cause_of names h.objects e) else None) ≡ None
-          → (if b then option_map {U = Broken} (λ (cause : BrokenCause). record { name = e.0; cause = cause }) (cause_of names part e) else None) ≡ None
-      by_test true n = ap (option_map {U = Broken} (λ (cause : BrokenCause). record { name = e.0; cause = cause })) (cause_part e.0 e.1 is (no_cause (cause_of names h.objects e) n))
-      by_test false n = refl
 
   all_none : (es : List Reference) → AllByRecursion (λ (e : Reference). finmap.get names e.0 ≡ Some e.1) es → filter_map (broken_at names h.objects) es ≡ [] → filter_map (broken_at names part) es ≡ []
   all_none [] all none = refl

@@ -3,7 +3,6 @@ use Rattle.std.specs.Prelude.{◌≡◌, ◌↔◌, ℕ, List, [], Option, Some,
 use Rattle.std.specs.List.{filter_map}
 use Rattle.std.specs.List.Sorted.{IsStrictlySortedBy}
 use Rattle.std.specs.FinMap as map
-use Rattle.fetch_specs.specs.Names.{is_full_name}
 use Rattle.fetch_base.specs.declared.id.ObjectId.{ObjectId}
 use Rattle.fetch_store.specs.declared.missing.Missing.{Missing}
 use Rattle.fetch_store.specs.Closed.{Holding, IsClosed, IsStored, Reached}
@@ -52,10 +51,9 @@ abbrev pub cause_of : Names → ObjectMap → List ℕ × Target → Option Brok
 cause_of names objects (name, Object id) = unless_stored objects id
 cause_of names objects (name, Symbolic target) = cause_in objects (end_of names (graph_of objects) (name, Symbolic target))
 
--- a reference with its cause, if it is broken; each name of references is a full one
+-- a reference with its cause, if it is broken
 abbrev pub broken_at : Names → ObjectMap → List ℕ × Target → Option Broken
-broken_at names objects e = if is_full_name e.0
-    then option_map (λ cause. record { name = e.0; cause = cause }) (cause_of names objects e) else None
+broken_at names objects e = option_map (λ cause. record { name = e.0; cause = cause }) (cause_of names objects e)
 
 -- the broken references, by ascending name
 abbrev pub broken_of : Names → ObjectMap → List Broken

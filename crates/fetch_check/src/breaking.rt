@@ -1,6 +1,7 @@
 //! References that lead to no stored object.
 
-ghost use Rattle.std.specs.Prelude.{◌≡◌, IfOk, Result, slice_get};
+ghost use Rattle.std.specs.Prelude.{◌≡◌, IfOk, IsTrue, Result, slice_get};
+ghost use Rattle.fetch_specs.specs.Names.{is_full_name};
 ghost use Rattle.fetch_base.specs.declared.id.ObjectId.{ObjectId as Id};
 ghost use Rattle.fetch_base.specs.Answers.{AnswersUnless};
 ghost use Rattle.fetch_store.specs.Graph.{graph_of};
@@ -12,7 +13,7 @@ ghost use Rattle.fetch_check.specs.Finding.{broken_at, broken_of, cause_in, caus
 
 use crate::findings::{Broken, BrokenCause};
 use fetch_refs::{RefError, Refs, TagEnds, TargetRef};
-use fetch_specs::{FullName, NameError};
+use fetch_specs::FullName;
 use fetch_store::{List, NoMemory, ObjectId, Store};
 use std::alloc::Global;
 
@@ -42,17 +43,27 @@ fn broken_reference(
     name: &[u8],
     target: TargetRef<'_>,
 ) -> Result<Option<Broken>, NoMemory>
-    requires { AreEnds (graph_of store.now.objects) known.old }
+    requires full { IsTrue (is_full_name name.now) }
+    requires known { AreEnds (graph_of store.now.objects) known.old }
     ensures broken { IfOk result (λ broken. broken ≡ broken_at refs.now.names store.now.objects (name.now, seen target.entry)) }
     ensures known { AreEnds (graph_of store.now.objects) known.new }
 {
     let Some(cause) = cause(store, refs, known, name, target)? else {
         return Ok(None);
     };
+    let name = full_name(alloc, name)?;
+    Ok(Some(Broken { name, cause }))
+}
+
+/// The full name of these bytes.
+pub(crate) fn full_name(alloc: Global, name: &[u8]) -> Result<FullName, NoMemory>
+    requires { IsTrue (is_full_name name.now) }
+    ensures { IfOk result (λ full. full ≡ name.now) }
+{
     match FullName::new(alloc, name) {
-        Ok(name) => Ok(Some(Broken { name, cause })),
-        Err(NameError::Invalid { .. }) => Ok(None),
-        Err(NameError::NoMemory) => Err(NoMemory),
+        Ok(name) => Ok(name),
+        // Never `Invalid`, since the bytes are a full name.
+        Err(_) => Err(NoMemory),
     }
 }
 

@@ -1,10 +1,11 @@
 //! Writing a bundle.
 
 ghost use Rattle.std.specs.Prelude.{◌≡◌, ◌<◌, ◌^◌, ◌++◌, ◌∷◌, [], All, None, Some, List as Items, filter, option_map, slice_get};
-ghost use Rattle.std.specs.Prelude.{IfOk, OnOk, OnErr};
+ghost use Rattle.std.specs.Prelude.{IfOk, IsTrue, OnOk, OnErr};
 ghost use Rattle.std.specs.FinMap as map;
 ghost use Rattle.std.specs.List.Sorted.{IsStrictlySortedBy};
 ghost use Rattle.fetch_base.specs.Answers.{RefusesUnless};
+ghost use Rattle.fetch_specs.specs.Names.{is_full_name};
 ghost use Rattle.fetch_store.specs.Borders.{ids_of};
 ghost use Rattle.fetch_store.specs.Closed.{holding};
 ghost use Rattle.fetch_base.specs.declared.id.ObjectId.{ObjectId as Id};
@@ -25,7 +26,7 @@ ghost use Rattle.fetch_check.specs.Finding.{missing_pairs};
 ghost use Rattle.fetch_check.specs.Refusals.{AreReached, is_memory, write_trouble};
 ghost use Rattle.fetch_check.specs.declared.error.BundleError.TheVariants.{NameTooLong};
 
-use crate::breaking::first_broken;
+use crate::breaking::{first_broken, full_name};
 use crate::cutting::{count_of, cut_from};
 use crate::error::BundleError;
 use crate::leaving::reached_from_refs;
@@ -33,7 +34,6 @@ use fetch_lines::{LineRef, WireError, write_line};
 use fetch_pack::PackVersion;
 use fetch_reach::write_stored;
 use fetch_refs::{Refs, TargetRef};
-use fetch_specs::{FullName, NameError};
 use fetch_store::{
     Border, Kind, Missing, NoMemory, ObjectId, Store, append_hex, first_missing, same_id,
 };
@@ -158,6 +158,7 @@ fn append_reference(
     target: TargetRef<'_>,
     out: &mut Vec<u8>,
 ) -> Result<(), BundleError>
+    requires { IsTrue (is_full_name name.now) }
     ensures line { OnOk result (out.new.items ≡ out.old.items ++ lines_text (sent (spec.ref_text (name.now, seen target.entry) ∷ []))) }
     ensures refused { RefusesUnless is_memory
         (option_map (λ long. NameTooLong long) (spec.long_name (name.now, seen target.entry))) result }
@@ -171,14 +172,13 @@ fn append_reference(
     }
 }
 
-/// The refusal of a name whose line is too long. Each name of references is a full one.
+/// The refusal of a name whose line is too long.
 fn too_long(alloc: Global, name: &[u8]) -> Result<(), BundleError>
+    requires { IsTrue (is_full_name name.now) }
     ensures { RefusesUnless is_memory (Some (NameTooLong name.now)) result }
 {
-    match FullName::new(alloc, name) {
-        Ok(name) => Err(BundleError::NameTooLong { name }),
-        Err(NameError::Invalid { .. } | NameError::NoMemory) => Err(BundleError::NoMemory),
-    }
+    let name = full_name(alloc, name)?;
+    Err(BundleError::NameTooLong { name })
 }
 
 /// `ref <id> <name>` or `ref @<target> <name>`, with its line feed.

@@ -1,7 +1,8 @@
 use Rattle.std.proofs.Common.{◌≡◌, ◌++◌, map}
 use Rattle.std.specs.Prelude.{slice_get}
 use Rattle.std.specs.FinMap.{entries}
-use Rattle.std.specs.List.{filter_map}
+use Rattle.std.specs.List.{AllByRecursion, filter_map}
+use Rattle.fetch_refs.specs.Full.{IsFull}
 use Rattle.fetch_refs.specs.Iter.{left}
 use Rattle.fetch_lines.specs.Requests.{sent}
 use Rattle.fetch_lines.specs.Written.{lines_text}
@@ -13,5 +14,6 @@ abbrev pub invariant-loop-name : goal.invariant-loop-name
 invariant-loop-name l = record {
   text : l.out.items ++ lines_text (sent (map ref_text (left l.name-iterator))) ≡ l.fn.out.items ++ lines_text (sent (map ref_text (entries l.refs.names)));
   short : slice_get (filter_map long_name (left l.name-iterator)) 0 ≡ slice_get (filter_map long_name (entries l.refs.names)) 0;
+  full : AllByRecursion IsFull (left l.name-iterator);
   keeps : Keeps l.fn.out.items l.out.items;
 }
