@@ -3,3 +3,15 @@ pub mod Consumed
 pub mod Asking
 pub mod Intakes
 pub mod WantIds
+pub mod Written
+pub mod AsWritten
+pub mod InOrder
+pub mod Details
+pub mod FetchRuns
+pub mod FetchGoes
+pub mod FetchTexts
+pub mod FirstLine
+pub mod LineSteps
+pub mod FetchLines
+pub mod ListingLines
+pub mod TableLines
