@@ -12,9 +12,13 @@ use fetch_store::{List, NoMemory, ObjectId, Text};
 pub enum Asked {
     /// The first line of a conversation. The greeting answers it.
     First,
-    /// The references: whether an unborn `HEAD` is to be told, and the prefixes of the names that are asked for, ascending.
-    /// Without a prefix all are.
-    Listing(bool, List<Text>),
+    /// The references.
+    Listing {
+        /// Whether an unborn `HEAD` is to be told.
+        unborn: bool,
+        /// The prefixes of the names that are asked for, ascending. Without a prefix all are.
+        prefixes: List<Text>,
+    },
     /// Objects.
     Fetch(FetchAsked),
 }
@@ -43,8 +47,18 @@ pub struct FetchAsked {
 // Not copied: it is read from a request, whose lines can be read again.
 #[derive(Debug, Drop)]
 pub enum DepthAsked {
-    /// That many commits from each want on, or, where it is relative, that many more than the border has.
-    Deepen(u32, bool),
-    /// No commit before that many seconds, and none that is reached from a reference of these names.
-    Limits(Option<u64>, List<PartialName>),
+    /// So many commits.
+    Deepen {
+        /// How many.
+        depth: u32,
+        /// Whether they are counted from the border on, and not from each want.
+        relative: bool,
+    },
+    /// No commit before a time, and none that is reached from a reference of some names.
+    Limits {
+        /// The time, in seconds since 1970, where one is given.
+        cutoff: Option<u64>,
+        /// The names, whole or short, in the request's order.
+        names: List<PartialName>,
+    },
 }

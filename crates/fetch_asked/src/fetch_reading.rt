@@ -96,7 +96,10 @@ impl FetchReading {
             }
             Detail::Shallow(id) => add_greater(&mut self.border, id),
             Detail::Deepen(depth) => {
-                self.depth = Some(DepthAsked::Deepen(depth, false));
+                self.depth = Some(DepthAsked::Deepen {
+                    depth,
+                    relative: false,
+                });
                 Ok(true)
             }
             Detail::Relative => {
@@ -104,7 +107,10 @@ impl FetchReading {
                 Ok(true)
             }
             Detail::Since(cutoff) => {
-                self.depth = Some(DepthAsked::Limits(Some(cutoff), List::new(alloc)));
+                self.depth = Some(DepthAsked::Limits {
+                    cutoff: Some(cutoff),
+                    names: List::new(alloc),
+                });
                 Ok(true)
             }
             Detail::Not(name) => {
@@ -141,7 +147,10 @@ fn made_relative(depth: Option<DepthAsked>) -> Option<DepthAsked>
     ensures { result ≡ spec.made_relative depth }
 {
     match depth {
-        Some(DepthAsked::Deepen(depth, _)) => Some(DepthAsked::Deepen(depth, true)),
+        Some(DepthAsked::Deepen { depth, .. }) => Some(DepthAsked::Deepen {
+            depth,
+            relative: true,
+        }),
         other => other,
     }
 }
@@ -155,8 +164,8 @@ fn with_name(
     ensures { IfOk result (λ limits. limits ≡ spec.with_name depth name) }
 {
     match depth {
-        Some(DepthAsked::Limits(cutoff, names)) => limits(cutoff, names, name),
-        Some(DepthAsked::Deepen(_, _)) | None => limits(None, List::new(alloc), name),
+        Some(DepthAsked::Limits { cutoff, names }) => limits(cutoff, names, name),
+        Some(DepthAsked::Deepen { .. }) | None => limits(None, List::new(alloc), name),
     }
 }
 
@@ -170,7 +179,7 @@ fn limits(
 {
     let mut names = names;
     names.push(name)?;
-    Ok(DepthAsked::Limits(cutoff, names))
+    Ok(DepthAsked::Limits { cutoff, names })
 }
 
 /// Adds an id, unless it came before, and says whether it was added.

@@ -78,7 +78,10 @@ pub(crate) fn read_prefix(
 {
     match saying {
         Saying::Text(text) => add_prefix(alloc, unborn, before, text),
-        Saying::Flush => Ok(Read::Whole(Asked::Listing(unborn, before))),
+        Saying::Flush => Ok(Read::Whole(Asked::Listing {
+            unborn,
+            prefixes: before,
+        })),
         Saying::Delim | Saying::End => Ok(Read::Broken),
     }
 }
@@ -99,7 +102,10 @@ pub(crate) fn read_unborn(alloc: Global, saying: Saying<'_>) -> Result<Read, NoM
 {
     match saying {
         Saying::Text(text) => add_unborn(alloc, text),
-        Saying::Flush => Ok(Read::Whole(Asked::Listing(false, List::new(alloc)))),
+        Saying::Flush => Ok(Read::Whole(Asked::Listing {
+            unborn: false,
+            prefixes: List::new(alloc),
+        })),
         Saying::Delim | Saying::End => Ok(Read::Broken),
     }
 }

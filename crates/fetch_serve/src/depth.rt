@@ -333,12 +333,18 @@ fn kept_by(
     let walk = walk_over(parts);
     let roots = roots(parts.alloc, parts.store, asked.wants.as_slice())?;
     match depth {
-        DepthAsked::Deepen(depth, true) => further(walk, border, &roots, u64::from(*depth)),
-        DepthAsked::Deepen(depth, false) => {
+        DepthAsked::Deepen {
+            depth,
+            relative: true,
+        } => further(walk, border, &roots, u64::from(*depth)),
+        DepthAsked::Deepen {
+            depth,
+            relative: false,
+        } => {
             let steps = u64::from((*depth).saturating_sub(1));
             walked(walk, Way::All, &roots, Some(steps))
         }
-        DepthAsked::Limits(cutoff, names) => {
+        DepthAsked::Limits { cutoff, names } => {
             within_limits(parts, &roots, *cutoff, names.as_slice(), references)
         }
     }

@@ -100,7 +100,7 @@ fn append_any(parts: Parts<'_>, asked: &Asked, out: &mut Vec<u8>) -> Result<(), 
 {
     match asked {
         Asked::First => append_greeting(parts.alloc, parts.store.kind(), out),
-        Asked::Listing(unborn, prefixes) => {
+        Asked::Listing { unborn, prefixes } => {
             let wanted = Wanted {
                 unborn: *unborn,
                 prefixes: prefixes.as_slice(),
