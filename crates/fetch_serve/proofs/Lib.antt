@@ -20,3 +20,5 @@ pub mod Collecting
 pub mod Appending
 pub mod Hearing
 pub mod Peering
+pub mod FetchesRead
+pub mod RoundHaves

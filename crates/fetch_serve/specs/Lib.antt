@@ -2,6 +2,7 @@ pub mod Served
 pub mod Parts
 pub mod Servable
 pub mod Offered
+pub mod FetchesRead
 pub mod Depths
 pub mod Ways
 pub mod Packs

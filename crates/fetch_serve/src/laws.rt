@@ -1,22 +1,26 @@
 //! What the definitions of a server say, in other words. Each law is the contract of a function without a body.
 
 ghost use Rattle.std.specs.Prelude.{◌≡◌, ◌↔◌, ◌++◌, Bool, true, false, List, [], ℕ, Ok, Option, Some, None, IsSome};
-ghost use Rattle.std.specs.Prelude.{All, Contains, length};
+ghost use Rattle.std.specs.Prelude.{◌≤◌, ◌∷◌, All, Contains, length, sum_by};
 ghost use Rattle.std.specs.FinMap as finmap;
+ghost use Rattle.std.specs.FinSet as set;
 ghost use Rattle.std.specs.List.Sorted.{IsStrictlySortedBy};
 ghost use Rattle.fetch_pack.specs.Reading.{read};
 ghost use Rattle.fetch_pack.specs.Records.{body, payloads_of};
 ghost use Rattle.fetch_serve.specs.Acts.{Act, DoesAll, fed_by};
 ghost use Rattle.fetch_serve.specs.Answers.{awaits, fails, pack_bytes, told_of};
 ghost use Rattle.fetch_serve.specs.Depths.{IsDepth, IsKept, depth_of, kept_of, led_to};
+ghost use Rattle.fetch_serve.specs.FetchesRead.{IsToServer, asked_of_fetch};
 ghost use Rattle.fetch_serve.specs.Packs.{IsClient, IsNeeded, IsServed, is_needed, is_reached, pack_at, pack_of, served_of};
 ghost use Rattle.fetch_serve.specs.Replies.{error_lines, first_unoffered, is_too_large, objects_of, replies_of, replies_to, reply_lines};
 ghost use Rattle.fetch_serve.specs.Replies.{reply_text};
 ghost use Rattle.fetch_serve.specs.Servable.{IsServable};
 ghost use Rattle.fetch_serve.specs.Served.{Data};
 ghost use Rattle.fetch_serve.specs.Servings.{Serving, Takes, unfed};
-ghost use Rattle.fetch_asked.specs.Texts.{asked_in, request_at};
+ghost use Rattle.fetch_asked.specs.Table.{IsEachOnce, IsTableRequest};
+ghost use Rattle.fetch_asked.specs.Texts.{asked_in, request_at, request_bound};
 ghost use Rattle.fetch_asked.specs.declared.asked.Asked.{Asked};
+ghost use Rattle.fetch_asked.specs.declared.asked.Asked.TheVariants.{Fetch};
 ghost use Rattle.fetch_asked.specs.declared.asked.FetchAsked.{FetchAsked};
 ghost use Rattle.fetch_serve.specs.declared.depth.Depth.{Depth};
 ghost use Rattle.fetch_asked.specs.declared.error.ServeError.{ServeError};
@@ -29,9 +33,21 @@ ghost use Rattle.fetch_base.specs.Id.{id_cmp};
 ghost use Rattle.fetch_base.specs.declared.id.ObjectId.{ObjectId as Id};
 ghost use Rattle.fetch_replies.specs.Awaited.{start_of, step_of};
 ghost use Rattle.fetch_replies.specs.LinesTold.{Tells};
-ghost use Rattle.fetch_lines.specs.Written.{first_too_long};
+ghost use Rattle.fetch_lines.specs.Lines.{line_len};
+ghost use Rattle.fetch_lines.specs.Written.{first_too_long, lines_text};
+ghost use Rattle.fetch_negotiate.specs.Any as any;
+ghost use Rattle.fetch_negotiate.specs.Lists.{firsts};
+ghost use Rattle.fetch_negotiate.specs.Requests.{Asked as Request, fetch_request};
+ghost use Rattle.fetch_negotiate.specs.Rounds.{AreRounds, haves_in};
+ghost use Rattle.fetch_negotiate.specs.Windows.{first_size};
+ghost use Rattle.fetch_negotiate.specs.declared.algorithm.Algorithm.{Algorithm};
+ghost use Rattle.fetch_negotiate.specs.declared.algorithm.Round.{Round};
+ghost use Rattle.fetch_base.specs.declared.id.Kind.{Kind};
 
-pub use fetch_asked::laws::{requests_come_one_by_one, what_is_asked_stays};
+pub use fetch_asked::laws::{
+    requests_are_read_as_written, requests_are_read_in_any_spelling, requests_come_one_by_one,
+    requests_that_are_read_are_requests, what_is_asked_stays,
+};
 
 /// Before anything was heard nothing is said.
 pub fn nothing_is_said_first()
@@ -116,4 +132,24 @@ pub fn served_packs_are_honest()
     ensures any_depth { (d : Data) (r : FetchAsked) (x : Depth) (client : Holding) (haves : List Id) → IsServable d
         → first_unoffered d r ≡ None → IsDepth d r x → IsClient d r client → All (Contains haves) r.haves
         → IsHonest (record { held = client; wants = r.wants; haves = haves }) (pack_at d r x) }
+{}
+
+/// A server reads each request of a fetch as what it asks: tags, the border, any change of the depth, wants, the
+/// haves of any round, and `done`. The request is one of the request table, and is read as it is written.
+pub fn each_request_of_a_fetch_is_read()
+    ensures table { (hash : Kind) (a : Request) (haves : List Id) (done : Bool) → IsToServer hash a haves
+        → IsTableRequest hash true (fetch_request a haves done) (Fetch (asked_of_fetch a haves done)) }
+    ensures read { (hash : Kind) (a : Request) (haves : List Id) (done : Bool) (rest : List ℕ)
+        → IsToServer hash a haves → first_too_long (fetch_request a haves done) ≡ None
+        → sum_by line_len (fetch_request a haves done) ≤ request_bound
+        → request_at hash true (lines_text (fetch_request a haves done) ++ rest)
+        ≡ Ok (Fetch (asked_of_fetch a haves done), rest) }
+{}
+
+/// The request of a round tells no have twice: those acknowledged in the rounds before, each once, and then the window.
+pub fn no_have_is_told_twice()
+    ensures { (g : Graph) (algorithm : Algorithm) (tips : List Id) (border : set.FinSet id_cmp) (before : List Round)
+        (r : Round) (acknowledged : List Id)
+        → AreRounds g algorithm first_size (any.begun algorithm tips border) (before ++ r ∷ [])
+        → All (Contains (haves_in before)) acknowledged → IsEachOnce (firsts acknowledged ++ r.haves) }
 {}
