@@ -9,7 +9,6 @@ pub mod Along
 pub mod GoingAlong
 pub mod HeardAlong
 pub mod StagesAlong
-pub mod Written
 pub mod NoopRead
 pub mod Replies
 pub mod FetchAlong

@@ -54,7 +54,7 @@ use Rattle.fetch_mirror.proofs.Replies.{no_end}
 use Rattle.fetch_mirror.proofs.RequestsRead.{asked_whole, first_read}
 use Rattle.fetch_mirror.proofs.ServedAlong.{AreWhole, adds, grows, whole_more, whole_none}
 use Rattle.fetch_mirror.proofs.Unconflicted.{all_mapped}
-use Rattle.fetch_mirror.proofs.Written.{text_tells}
+use Rattle.fetch_asked.proofs.Written.{text_tells}
 
 -- ---- the hash that a rule tells
 

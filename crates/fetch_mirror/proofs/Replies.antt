@@ -6,7 +6,7 @@ use Rattle.fetch_lines.specs.declared.lines.line.Line.TheVariants.{End}
 use Rattle.fetch_replies.specs.declared.replies.parser.Part.TheVariants as parts
 use Rattle.fetch_replies.specs.declared.replies.parser.ReplyParser.{ReplyParser}
 use Rattle.fetch_replies.specs.declared.replies.parser.ReplyParser.TheVariants as reading
-use Rattle.fetch_mirror.proofs.Written.{HasNoEnd}
+use Rattle.fetch_asked.proofs.Written.{HasNoEnd}
 
 ends_break : (r : ReplyParser) → step_of r End ≡ breaks
 unfolding step_of

@@ -12,44 +12,24 @@ use Rattle.fetch_lines.specs.Lines.{line_len}
 use Rattle.fetch_replies.specs.LinesTold.{Tells}
 use Rattle.fetch_lines.specs.RequestWords.{agent_word, format_word, format_is}
 use Rattle.fetch_lines.specs.Requests.{detail_texts, first_line, kind_text, listing_lines, listing_word, prefix_text, sent, text_line}
-use Rattle.fetch_replies.specs.Stepping.{goes, breaks, or_breaks}
+use Rattle.fetch_replies.specs.Stepping.{goes, or_breaks}
 use Rattle.fetch_lines.specs.Texts.{without_lf}
 use Rattle.fetch_lines.specs.Written.{first_too_long, lines_text}
 use Rattle.fetch_lines.specs.declared.lines.line.Line.{Line}
-use Rattle.fetch_lines.specs.declared.lines.line.Line.TheVariants.{Flush, End}
+use Rattle.fetch_lines.specs.declared.lines.line.Line.TheVariants.{Flush}
 use Rattle.fetch_replies.specs.declared.replies.reply.ReplyError.TheVariants.{TooLong}
 use Rattle.fetch_replies.proofs.Moving.{Moves, first_tells, lf_last, moves_tell}
 use Rattle.fetch_asked.specs.declared.asked.Asked.{Asked}
 use Rattle.fetch_asked.specs.declared.asked.Asked.TheVariants.{First, Listing}
-use Rattle.fetch_asked.specs.declared.reading.FetchHead.TheVariants as head
 use Rattle.fetch_asked.specs.declared.reading.ListingPart.TheVariants as listing
-use Rattle.fetch_asked.specs.declared.reading.Reading.{Reading}
 use Rattle.fetch_asked.specs.declared.reading.Reading.TheVariants as reading
 use Rattle.fetch_serve.specs.Offered.{capabilities_of}
 use Rattle.fetch_asked.specs.RequestTexts.{is_first_line, peel_word, prefix_word, symrefs_word, unborn_word, upload_word, version_mark}
 use Rattle.fetch_asked.specs.Requests.{IsRequest, asked_step, at_prefix, format_text, if_rising, last_of, start_of}
 use Rattle.fetch_asked.specs.Texts.{request_at, request_bound}
 use Rattle.fetch_mirror.specs.Listings.{AreRising}
-use Rattle.fetch_mirror.proofs.Written.{HasNoEnd, text_tells, text_too_long}
-
--- no line of a request is a response end
-ends_break : (hash : Kind) (r : Reading) → asked_step hash r End ≡ breaks
-unfolding asked_step
-ends_break hash reading.Opening = refl
-ends_break hash reading.Command = refl
-ends_break hash (reading.Listing listing.Format) = refl
-ends_break hash (reading.Listing listing.Delimiter) = refl
-ends_break hash (reading.Listing listing.Symrefs) = refl
-ends_break hash (reading.Listing listing.Peel) = refl
-ends_break hash (reading.Listing listing.Unborn) = refl
-ends_break hash (reading.Prefixes unborn prefixes) = refl
-ends_break hash (reading.Fetch head.Format) = refl
-ends_break hash (reading.Fetch head.Delimiter) = refl
-ends_break hash (reading.Fetch head.Version) = refl
-ends_break hash (reading.Details part r) = refl
-
-pub no_end : (hash : Kind) → HasNoEnd (asked_step hash)
-no_end hash = record { broken = ends_break hash }
+use Rattle.fetch_asked.proofs.AsWritten.{no_end, read_as_written}
+use Rattle.fetch_asked.proofs.Written.{text_too_long}
 
 -- ---- the first line
 
@@ -137,7 +117,7 @@ listing_read Sha256 agent prefixes rising = (
 -- a request that fits is read whole
 pub asked_whole : (hash : Kind) (begun : Bool) (lines : List Line) (asked : Asked) → IsRequest hash begun lines asked → first_too_long lines ≡ None → sum_by line_len lines ≤ request_bound → request_at hash begun (lines_text lines) ≡ Ok (asked, [])
 asked_whole hash begun lines asked is fits within =
-    ap (request_at hash begun) (sym (append-nil (lines_text lines))) ∙ text_tells (asked_step hash) (no_end hash) request_bound (start_of begun) lines asked [] is fits within
+    ap (request_at hash begun) (sym (append-nil (lines_text lines))) ∙ read_as_written hash begun lines [] asked is fits within
 
 -- one that passes the bound of requests isn't
 pub asked_too_long : (hash : Kind) (begun : Bool) (lines : List Line) (asked : Asked) → IsRequest hash begun lines asked → first_too_long lines ≡ None → request_bound < sum_by line_len lines → request_at hash begun (lines_text lines) ≡ Err TooLong

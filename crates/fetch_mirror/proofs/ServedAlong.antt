@@ -25,7 +25,7 @@ use Rattle.fetch_mirror.specs.GoingAlong.{GoesAlong, GoesTo}
 use Rattle.fetch_mirror.proofs.GoingAlong.{goes_on, goes_broken, goes_dead}
 use Rattle.fetch_mirror.proofs.Replies.{no_end}
 use Rattle.fetch_mirror.proofs.StagesAlong.{to_on}
-use Rattle.fetch_mirror.proofs.Written.{text_says, text_tells, text_too_long}
+use Rattle.fetch_asked.proofs.Written.{text_says, text_tells, text_too_long}
 
 -- a server takes nothing back
 pub grows : (d : Data) → Grows (replies_of d)
