@@ -1,14 +1,17 @@
 //! The files of the host.
 
-ghost use Rattle.std.specs.Prelude.{None, true, IfErr, ◌≡◌};
+ghost use Rattle.std.specs.Prelude.{None, true, ◌≡◌, ◌↔◌};
+ghost use Rattle.std.specs.IoError.{error_kind};
+ghost use Rattle.std.specs.declared.io.ErrorKind.TheVariants as kinds;
+ghost use Rattle.fetch_files.specs.declared.file_error.FileError.TheVariants as errors;
 ghost use Rattle.fetch_base.specs.Calls.{one_more};
 ghost use Rattle.fetch_base.specs.Faults.{Counts, counted};
 ghost use Rattle.fetch_create.specs.HostFaults.{IsCounted};
 
-use fetch_store::{Failed, FileError, Files, Node, Text, split_last};
+use fetch_store::{Failed, FileError, Files, Node, NoMemory, Text, append_number, split_last};
 use std::alloc::{Alloc, Global};
-use std::fs::{self, Files as HostCalls};
-use std::io::{self, ErrorKind};
+use std::fs::{self, File, Files as HostCalls, OpenFile};
+use std::io::{self, ErrorKind, Write};
 use std::str;
 
 /// The files of the host. They tell no tree, and any call may fail. A path that isn't UTF-8, and a directory with a name
@@ -27,9 +30,10 @@ impl<R: HostCalls + Alloc<A = Global> + Clone + Drop> HostFiles<R> {
     }
 }
 
-/// Counts what the host refused, unless memory ran out.
+/// Counts what the host refused, unless it says that memory ran out.
 fn refuse(failed: &mut u64, e: io::Error) -> FileError
     ensures counted { IsCounted failed.old failed.new result }
+    ensures memory { (result ≡ errors.NoMemory) ↔ (error_kind e ≡ kinds.OutOfMemory) }
 {
     if e.kind() == ErrorKind::OutOfMemory {
         return FileError::NoMemory;
@@ -77,11 +81,72 @@ fn list<R: HostCalls + Alloc<A = Global> + Clone + Drop>(
     Ok(names)
 }
 
-fn write<R: HostCalls>(rt: &R, path: &[u8], bytes: &[u8]) -> io::Result<()> {
-    if let Some((directory, _)) = split_last(b'/', path) {
-        fs::create_dir_all(rt, host_path(directory)?)?;
+/// How many names are tried for the file that a write fills beside its path.
+const NAMES: usize = 1000;
+
+/// The name beside a path with a number, which names no other path's.
+fn beside(alloc: Global, path: &[u8], number: usize) -> Result<Vec<u8>, NoMemory> {
+    let mut name = Vec::from_slice(alloc, path)?;
+    name.extend_from_slice(b".new-")?;
+    append_number(&mut name, number)?;
+    Ok(name)
+}
+
+/// Makes the first file beside the path whose name is free, so that two writers of one path never fill the same.
+fn create_beside<R: HostCalls + Alloc<A = Global>>(
+    rt: &R,
+    path: &[u8],
+) -> io::Result<(R::File, Vec<u8>)> {
+    for number in 0..NAMES {
+        let Ok(name) = beside(rt.alloc(), path, number) else {
+            return Err(io::Error::from(ErrorKind::OutOfMemory));
+        };
+        match File::create_new(rt, host_path(name.as_slice())?) {
+            Ok(file) => return Ok((file, name)),
+            Err(e) if e.kind() == ErrorKind::AlreadyExists => {}
+            Err(e) => return Err(e),
+        }
     }
-    fs::write(rt, host_path(path)?, bytes)
+    Err(io::Error::from(ErrorKind::AlreadyExists))
+}
+
+/// Writes the bytes, and waits until they are on the disk.
+fn fill<F: Write + OpenFile + Drop>(file: F, bytes: &[u8]) -> io::Result<()> {
+    let mut file = file;
+    file.write_all(bytes)?;
+    file.sync_all()
+}
+
+/// Waits until the names in a directory are on the disk.
+fn sync_directory<R: HostCalls>(rt: &R, directory: &str) -> io::Result<()> {
+    File::open(rt, directory)?.sync_all()
+}
+
+/// The directory that a path stands in.
+fn directory_of(path: &[u8]) -> &[u8] {
+    match split_last(b'/', path) {
+        None => b".",
+        Some((directory, _)) if directory.is_empty() => b"/",
+        Some((directory, _)) => directory,
+    }
+}
+
+/// Fills a file beside the path, and puts it in its place: whoever reads the path finds the old bytes or the new ones,
+/// also after a lost power supply. What was filled is removed where it can't be put there.
+fn write<R: HostCalls + Alloc<A = Global>>(rt: &R, path: &[u8], bytes: &[u8]) -> io::Result<()> {
+    if path.is_empty() {
+        return Err(io::Error::from(ErrorKind::InvalidInput));
+    }
+    let directory = host_path(directory_of(path))?;
+    fs::create_dir_all(rt, directory)?;
+    let (file, name) = create_beside(rt, path)?;
+    let name = host_path(name.as_slice())?;
+    let replaced = fill(file, bytes).and_then(|()| fs::rename(rt, name, host_path(path)?));
+    if let Err(e) = replaced {
+        let _ = fs::remove_file(rt, name);
+        return Err(e);
+    }
+    sync_directory(rt, directory)
 }
 
 fn read<R: HostCalls + Alloc<A = Global>>(rt: &R, path: &[u8]) -> io::Result<Option<Text>> {
