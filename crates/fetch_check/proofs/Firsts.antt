@@ -19,7 +19,7 @@ use Rattle.fetch_base.proofs.Ids.{id_cmp_exact}
 use Rattle.fetch_base.proofs.Orders.{cmp_at}
 use Rattle.fetch_check.specs.declared.missing.Pair.{Pair}
 use Rattle.fetch_check.specs.contracts.missing.PairOrd.TheImpl as order
-use Rattle.fetch_check.specs.Pairs.{is_same_link, firsts_of, pair_cmp, pair_of, pairs_of, links_of, with_pairs}
+use Rattle.fetch_check.specs.Pairs.{is_same_link, firsts_of, pair_cmp, pair_of, pairs_of, missing_of, with_pairs}
 
 -- the order that Rust derives for pairs
 pub order_at : (a b : Pair) → (order.ghosts).cmp a b ≡ pair_cmp a b
@@ -86,8 +86,8 @@ one_more found x y =
     swap false true = refl
     swap false false = refl
 
-pub firsts_found : (found : List Pair) (xs : List Missing) → links_of (with_pairs found (pairs_of xs)) ≡ links_of found ++ filter (λ y. not (known found y)) (firsts_of xs)
-firsts_found found [] = sym (append-nil (links_of found))
+pub firsts_found : (found : List Pair) (xs : List Missing) → missing_of (with_pairs found (pairs_of xs)) ≡ missing_of found ++ filter (λ y. not (known found y)) (firsts_of xs)
+firsts_found found [] = sym (append-nil (missing_of found))
 firsts_found found (x ∷ xs) = by_test (firsts_found found xs) (firsts_found (found ++ pair_of x ∷ []) xs) (known found x) refl
   where
     F : List Missing
@@ -96,23 +96,23 @@ firsts_found found (x ∷ xs) = by_test (firsts_found found xs) (firsts_found (f
     t : Missing → Bool
     t y = not (is_same_link y x)
 
-    by_test : links_of (with_pairs found (pairs_of xs)) ≡ links_of found ++ filter (λ y. not (known found y)) (firsts_of xs)
-        → links_of (with_pairs (found ++ pair_of x ∷ []) (pairs_of xs)) ≡ links_of (found ++ pair_of x ∷ []) ++ filter (λ y. not (known (found ++ pair_of x ∷ []) y)) (firsts_of xs)
+    by_test : missing_of (with_pairs found (pairs_of xs)) ≡ missing_of found ++ filter (λ y. not (known found y)) (firsts_of xs)
+        → missing_of (with_pairs (found ++ pair_of x ∷ []) (pairs_of xs)) ≡ missing_of (found ++ pair_of x ∷ []) ++ filter (λ y. not (known (found ++ pair_of x ∷ []) y)) (firsts_of xs)
         → (b : Bool) → known found x ≡ b
-        → links_of (with_pairs (cond b found (found ++ pair_of x ∷ [])) (pairs_of xs)) ≡ links_of found ++ cond (not b) (x ∷ filter (λ y. not (known found y)) (filter t F)) (filter (λ y. not (known found y)) (filter t F))
+        → missing_of (with_pairs (cond b found (found ++ pair_of x ∷ [])) (pairs_of xs)) ≡ missing_of found ++ cond (not b) (x ∷ filter (λ y. not (known found y)) (filter t F)) (filter (λ y. not (known found y)) (filter t F))
     by_test old new true k =
-        old ∙ ap (λ (ys : List Missing). links_of found ++ ys)
+        old ∙ ap (λ (ys : List Missing). missing_of found ++ ys)
         (sym (filter_twice (λ y. not (known found y)) t F ∙ filter_same (λ y. t y && not (known found y)) (λ y. not (known found y)) F (λ y. passed found x y (known found y) (is_same_link y x) k refl refl)))
     by_test old new false k =
         new ∙ ap₂ (λ (xs ys : List Missing). xs ++ ys) (map-append (λ (pair : Pair). record { from = pair.from; to = pair.to }) found (pair_of x ∷ []))
         (filter_same (λ y. not (known (found ++ pair_of x ∷ []) y)) (λ y. t y && not (known found y)) F (one_more found x) ∙ sym (filter_twice (λ y. not (known found y)) t F))
-        ∙ append_assoc (links_of found) (x ∷ []) (filter (λ y. not (known found y)) (filter t F))
+        ∙ append_assoc (missing_of found) (x ∷ []) (filter (λ y. not (known found y)) (filter t F))
 
 filter_all : (xs : List Missing) → filter (λ y. true) xs ≡ xs
 filter_all [] = refl
 filter_all (x ∷ xs) = ap (λ (ys : List Missing). x ∷ ys) (filter_all xs)
 
-pub all_firsts : (xs : List Missing) → links_of (with_pairs [] (pairs_of xs)) ≡ firsts_of xs
+pub all_firsts : (xs : List Missing) → missing_of (with_pairs [] (pairs_of xs)) ≡ firsts_of xs
 all_firsts xs = firsts_found [] xs ∙ filter_all (firsts_of xs)
 
 -- ---- one link after the other

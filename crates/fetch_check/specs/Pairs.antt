@@ -31,8 +31,8 @@ abbrev pub pairs_of : List Missing → List Pair
 pairs_of links = map pair_of links
 
 -- keys as links
-abbrev pub links_of : List Pair → List Missing
-links_of pairs = map (λ pair. record { from = pair.from; to = pair.to }) pairs
+abbrev pub missing_of : List Pair → List Missing
+missing_of pairs = map (λ pair. record { from = pair.from; to = pair.to }) pairs
 
 -- with all of these, each once
 abbrev pub with_pairs : List Pair → List Pair → List Pair

@@ -24,6 +24,7 @@ pub(crate) fn unreached(
     let reached = reached_from_refs(alloc, store, refs, border)?;
     let stored = match store.ids(alloc) {
         Ok(ids) => ids,
+        // Memory alone refuses.
         Err(_) => return Err(NoMemory),
     };
     difference(alloc, stored.as_slice(), reached.as_slice())

@@ -6,7 +6,7 @@ ghost use Rattle.fetch_store.specs.Closed as closed;
 ghost use Rattle.fetch_store.specs.Closed.{holding, is_commit};
 ghost use Rattle.fetch_store.specs.Missing as told;
 ghost use Rattle.fetch_objects.specs.References.{ids_left, seen};
-ghost use Rattle.fetch_check.specs.Pairs.{links_of, pairs_of, with_pairs};
+ghost use Rattle.fetch_check.specs.Pairs.{missing_of, pairs_of, with_pairs};
 ghost use Rattle.fetch_check.specs.Finding.{missing_pairs};
 
 use fetch_store::{
@@ -40,7 +40,7 @@ pub(crate) fn all_missing(
     let mut found = Distinct::new(alloc);
     add_unlinked(store, border, &mut found)?;
     add_unknown(store, border.commits(), &mut found)?;
-    links_of(alloc, found.as_slice())
+    missing_of(alloc, found.as_slice())
 }
 
 fn add_unlinked(
@@ -110,8 +110,8 @@ fn stands_commit(store: &Store, id: &ObjectId) -> bool
     }
 }
 
-fn links_of(alloc: Global, pairs: &[Pair]) -> Result<List<Missing>, NoMemory>
-    ensures { IfOk result (λ missing. missing ≡ links_of pairs.now) }
+fn missing_of(alloc: Global, pairs: &[Pair]) -> Result<List<Missing>, NoMemory>
+    ensures { IfOk result (λ missing. missing ≡ missing_of pairs.now) }
 {
     let mut missing = List::new(alloc);
     for pair in pairs {

@@ -41,6 +41,7 @@ fn is_closed(store: &Store, border: &Border) -> bool
 {
     match first_missing(store, border) {
         Ok(link) => link.is_none(),
+        // It never refuses.
         Err(_) => false,
     }
 }
@@ -98,6 +99,7 @@ fn copy_of(alloc: Global, hash: Kind, object: ObjectRef<'_>) -> Result<Object, N
     let bytes = Vec::from_slice(alloc, object.bytes())?;
     match Object::parse(hash, object.kind(), bytes) {
         Ok(object) => Ok(object),
+        // What is stored obeys its grammar, so memory alone refuses.
         Err(_) => Err(NoMemory),
     }
 }

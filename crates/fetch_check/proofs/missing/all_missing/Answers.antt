@@ -8,7 +8,7 @@ use Rattle.fetch_base.specs.declared.id.ObjectId.{ObjectId}
 use Rattle.fetch_store.specs.declared.missing.Missing.{Missing}
 use Rattle.fetch_store.proofs.Unclosed.{unlinked_entries}
 use Rattle.fetch_check.specs.Finding.{missing_pairs}
-use Rattle.fetch_check.specs.Pairs.{firsts_of, links_of, with_pairs, pairs_of}
+use Rattle.fetch_check.specs.Pairs.{firsts_of, missing_of, with_pairs, pairs_of}
 use Rattle.fetch_check.proofs.Firsts.{with_both_links, all_firsts}
 use Rattle.fetch_check.proofs.missing.all_missing.Goals as goal
 
@@ -22,6 +22,6 @@ returns c =
     ∙ ap (λ f. with_pairs f (pairs_of (unknown c.commits.result.now))) (c.in_ok-add_unlinked.ensures ∙ ap (λ f. with_pairs f (pairs_of linked)) c.new-found.ensures)
     ∙ ap (λ ids. with_pairs (with_pairs [] (pairs_of linked)) (pairs_of (unknown ids))) c.commits.ensures.members
     ∙ sym (with_both_links [] linked (unknown (ids_of h.border))) in
-    let all : links_of c.as_slice.result.now ≡ missing_pairs h =
-    ap links_of found ∙ all_firsts (linked ++ unknown (ids_of h.border)) ∙ ap (λ (xs : List Missing). firsts_of (xs ++ unknown (ids_of h.border))) (unlinked_entries h) in
-    subst (λ (xs : List Missing). IfOk c.links_of.result (λ missing. missing ≡ xs)) all c.links_of.ensures
+    let all : missing_of c.as_slice.result.now ≡ missing_pairs h =
+    ap missing_of found ∙ all_firsts (linked ++ unknown (ids_of h.border)) ∙ ap (λ (xs : List Missing). firsts_of (xs ++ unknown (ids_of h.border))) (unlinked_entries h) in
+    subst (λ (xs : List Missing). IfOk c.missing_of.result (λ missing. missing ≡ xs)) all c.missing_of.ensures
