@@ -126,3 +126,7 @@ pub none_missing : (names : Names) (h : Holding) → None ≡ slice_get (missing
     → write_trouble names h ≡ option_or (option_map (λ b. errors.Broken b) (slice_get (broken_of names h.objects) 0)) (option_map (λ n. errors.NameTooLong n) (first_long names))
 none_missing names h is =
     ap (λ x. option_or (option_map (λ l. errors.Missing l) x) (option_or (option_map (λ b. errors.Broken b) (slice_get (broken_of names h.objects) 0)) (option_map (λ n. errors.NameTooLong n) (first_long names)))) (sym is)
+
+pub untroubled : (names : Names) (h : Holding) → None ≡ slice_get (missing_pairs h) 0 → None ≡ slice_get (broken_of names h.objects) 0 → option_map (λ n. errors.NameTooLong n) (first_long names) ≡ None → write_trouble names h ≡ None
+untroubled names h missing broken short =
+    none_missing names h missing ∙ ap (λ x. option_or (option_map (λ b. errors.Broken b) x) (option_map (λ n. errors.NameTooLong n) (first_long names))) (sym broken) ∙ short

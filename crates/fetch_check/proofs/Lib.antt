@@ -2,6 +2,8 @@ pub mod Firsts
 pub mod Unreached
 pub mod Told
 pub mod Lines
+pub mod OwnDigits
+pub mod Sounds
 pub mod Bundling
 pub mod Digits
 pub mod Cut

@@ -51,6 +51,7 @@ use Rattle.fetch_check.proofs.LineTexts.{all_of}
 use Rattle.fetch_check.proofs.Parts.{ids_at, part_whole, part_rises, all_stored}
 use Rattle.fetch_check.proofs.Pieces.{is_cut}
 use Rattle.fetch_check.proofs.Shapes.{Reference, shape, said_shape}
+use Rattle.fetch_check.proofs.Sounds.{border_of_hash, references_of_hash}
 
 -- ---- no trouble
 
@@ -145,10 +146,11 @@ pub reads_back : (hash : Kind) (names : Names) (h : Holding) (ids : List ObjectI
     → IsBundle (bundled hash names h ids)
 reads_back hash names h ids sound reached fits none =
     let free = no_trouble names h none in
+    let border = border_of_hash hash names h sound free.closed in
     let kept = filter (λ (id : ObjectId). is_among id ids) (ids_of h.border) in
     let of_hash : AllByRecursion (IsOfHash hash) (ids_of (set_of kept)) =
     subst (AllByRecursion (IsOfHash hash)) (sym (ids_of-set kept (IsStrictlySortedBy-filter id_cmp (λ (id : ObjectId). is_among id ids) (ids_of h.border) (ids_rise h.border))))
-    (all_kept (IsOfHash hash) (λ (id : ObjectId). is_among id ids) (ids_of h.border) sound.border) in
+    (all_kept (IsOfHash hash) (λ (id : ObjectId). is_among id ids) (ids_of h.border) border) in
     let b = bundled hash names h ids in
     let es = entries_at h.objects ids in
     let stored = all_stored names h ids reached free.closed free.unbroken in
@@ -157,7 +159,7 @@ reads_back hash names h ids sound reached fits none =
     ap (λ (os : List Stored). digest hash (body V2 hash (payloads_of os))) (sym (objects_only h.objects ids)) in
     record {
       can = record {
-        references = sound.references;
+        references = references_of_hash hash names h sound free.unbroken;
         border = of_hash;
         written = subst (AllByRecursion IsWritten) (sym (said_shape (said_in b)))
             (shape_written hash (finmap.entries names) (ids_of (set_of kept)) (in_pieces 65000 (pack_of b)) (none_first (filter_map long_name (finmap.entries names)) free.short) of_hash (is_cut (pack_of b)));

@@ -2,25 +2,15 @@
 use Rattle.std.specs.Prelude.{◌≡◌, ◌⊎◌, ℕ, ◌-◌, ◌==◌, false, List, ◌++◌, length, take, codes, Option, Some, None, IfSome}
 use Rattle.std.specs.List.{suffix_len}
 use Rattle.std.specs.Option.{option_and_then}
-use Rattle.fetch_base.specs.declared.id.Kind.{Kind}
-use Rattle.fetch_base.specs.declared.id.ObjectId.{ObjectId}
-use Rattle.fetch_store.specs.Closed.{Holding}
 use Rattle.fetch_files.specs.Paths.{parts_of}
 use Rattle.fetch_files.specs.Trees.{Tree, read_in, renamed, written}
-use Rattle.fetch_refs.specs.Names.{Names}
 use Rattle.fetch_check.specs.declared.error.BundleError.{BundleError}
 use Rattle.fetch_check.specs.declared.reading.Bundle.{Bundle}
-use Rattle.fetch_check.specs.Bundles.{bundle_text, bundled}
+use Rattle.fetch_check.specs.Bundles.{bundle_text}
 use Rattle.fetch_check.specs.Reading.{IsBundle, IsRefused, bundle_of, refs_alone}
-use Rattle.fetch_check.specs.Refusals.{AreReached, is_memory}
+use Rattle.fetch_check.specs.Refusals.{is_memory}
 
 -- ---- saving
-
--- The text of a repository's bundle.
-pub record IsTextOf (hash : Kind) (names : Names) (h : Holding) (text : List ℕ) : Type 0 where
-  pub ids : List ObjectId
-  pub reached : AreReached names h ids
-  pub text_is : text ≡ bundle_text (bundled hash names h ids)
 
 -- a path without the slashes at its end
 abbrev pub without_slashes : List ℕ → List ℕ
@@ -37,6 +27,10 @@ saved t path text = option_and_then (λ u. renamed u (parts_of (lock_of path)) (
 -- The tree is as before, or it has this text beside the path.
 abbrev pub IsBegun : Option Tree → Option Tree → List ℕ → List ℕ → Type 0
 IsBegun before now path text = (now ≡ before) ⊎ IfSome before (λ t. written t (parts_of (lock_of path)) text ≡ now)
+
+-- The tree is as before, or it has such a text beside the path.
+abbrev pub IsBegunBy : (List ℕ → Type 0) → Option Tree → Option Tree → List ℕ → Type 0
+IsBegunBy IsText before now path = (now ≡ before) ⊎ ((text : List ℕ) × IsText text × IsBegun before now path text)
 
 -- What is read at the path is what was read there.
 abbrev pub IsLeft : Option Tree → Option Tree → List ℕ → Type 0
@@ -56,6 +50,12 @@ IsLoaded (Some (Some text)) None = ⊥
 IsLoaded (Some None) (Some x) = ⊥
 IsLoaded (Some None) None = Unit {0}
 IsLoaded None found = ⊥
+
+-- Some text is refused for this cause, which isn't want of memory.
+pub record IsCause (e : BundleError) : Type 0 where
+  pub text : List ℕ
+  pub refused : IsRefused text e
+  pub certain : is_memory e ≡ false
 
 -- The text that is read is refused for this cause.
 pub record IsNoBundle (read : Option (Option (List ℕ))) (e : BundleError) : Type 0 where

@@ -7,6 +7,7 @@ pub mod Scanning
 pub mod Payloads
 pub mod Reading
 pub mod ReadSteps
+pub mod Writing
 pub mod Made
 pub mod Sound
 pub mod KeepErrors

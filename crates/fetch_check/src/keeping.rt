@@ -15,8 +15,9 @@ ghost use Rattle.fetch_files.specs.declared.file_error.FileError.TheVariants as 
 ghost use Rattle.fetch_reach.specs.Named.{AreOwnIds};
 ghost use Rattle.fetch_check.specs.KeepErrors.{failed_after, is_free};
 ghost use Rattle.fetch_check.specs.Keeping as spec;
-ghost use Rattle.fetch_check.specs.Keeping.{IsBegun, IsLeft, IsLoaded, IsNoBundle, IsRead, IsTextOf};
+ghost use Rattle.fetch_check.specs.Keeping.{IsBegun, IsBegunBy, IsCause, IsLeft, IsLoaded, IsNoBundle, IsRead};
 ghost use Rattle.fetch_check.specs.Refusals.{is_memory, write_trouble};
+ghost use Rattle.fetch_check.specs.Writing.{IsTextOf};
 ghost use Rattle.fetch_check.specs.declared.error.BundleError.{BundleError as Trouble};
 ghost use Rattle.fetch_check.specs.declared.keep_error.KeepError.TheVariants as errors;
 
@@ -32,8 +33,8 @@ use std::thread::Threads;
 /// Saves a repository as a bundle: its text is written to `<path>.lock`, which then goes to the path. So the file at the
 /// path is whole at any time, the old one or the new one. A bundle keeps no reflogs, and no objects that the direct
 /// references don't reach. `Bundle` tells why a repository isn't written, before any call of the files, and counts no
-/// fault; `Failed` counts one. After an error the path reads as before, and a file `<path>.lock` may stand, which the next
-/// save writes again.
+/// fault; `Failed` counts one. After an error the path reads as before, and nothing else is changed but that the whole text
+/// may stand at `<path>.lock`, which the next save writes again.
 pub fn save_bundle<F: Files>(
     alloc: Global,
     store: &Store,
@@ -49,6 +50,8 @@ pub fn save_bundle<F: Files>(
     ensures refused { RefusesUnless is_free
         (option_map (λ e. errors.Bundle e) (write_trouble refs.now.names (holding store.now.objects border.now))) result }
     ensures untouched { (e : Trouble) → IsErrOf result (errors.Bundle e) → F.told files.new ≡ F.told files.old }
+    ensures begun { OnErr result (IsBegunBy (IsTextOf store.now.hash refs.now.names (holding store.now.objects border.now))
+        (F.told files.old) (F.told files.new) path.now) }
     ensures left { OnErr result (IsLeft (F.told files.old) (F.told files.new) path.now) }
     ensures failed { (F.faults files.new).count ≡ failed_after (F.faults files.old).count result }
     ensures cause { IsErrOf result errors.Failed → Rose (F.faults files.old) (F.faults files.new) }
@@ -141,6 +144,7 @@ pub fn load_bundle<R: Threads + Sync, F: Files>(
     ensures loaded { IfOk result (λ found. IfSome (F.told files.old) (λ t. IsLoaded (read_in t (parts_of path.now)) found)) }
     ensures refused { (e : Trouble) → IsErrOf result (errors.Bundle e)
         → IfSome (F.told files.old) (λ t. IsNoBundle (read_in t (parts_of path.now)) e) }
+    ensures broken { (e : Trouble) → IsErrOf result (errors.Bundle e) → IsCause e }
     ensures tree { F.told files.new ≡ F.told files.old }
     ensures failed { (F.faults files.new).count ≡ failed_after (F.faults files.old).count result }
     ensures cause { IsErrOf result errors.Failed → Rose (F.faults files.old) (F.faults files.new) }

@@ -1,7 +1,8 @@
 //! What findings and bundles say, in other words. Each law is the contract of a function without a body.
 
-ghost use Rattle.std.specs.Prelude.{◌≡◌, ◌↔◌, List, Option, [], ℕ, Ok, None, Some, false, Contains, IfSome, length, option_map};
+ghost use Rattle.std.specs.Prelude.{◌≡◌, ◌↔◌, List, Option, Result, [], ℕ, Ok, Some, false, Contains, IfSome, length, option_map};
 ghost use Rattle.std.specs.FinMap as map;
+ghost use Rattle.fetch_base.specs.Answers.{AnswersBy};
 ghost use Rattle.fetch_base.specs.declared.id.Kind.{Kind};
 ghost use Rattle.fetch_base.specs.declared.id.ObjectId.{ObjectId};
 ghost use Rattle.fetch_store.specs.declared.missing.Missing.{Missing};
@@ -22,9 +23,9 @@ ghost use Rattle.fetch_reach.specs.Stored.{objects_at};
 ghost use Rattle.fetch_check.specs.Bundles.{Bundled, bundle_text, bundled, pack_of};
 ghost use Rattle.fetch_check.specs.Finding.{end_of, missing_pairs};
 ghost use Rattle.fetch_check.specs.Keeping.{IsLoaded, IsNoBundle, IsRead, saved};
-ghost use Rattle.fetch_check.specs.Reading.{IsBundle, IsRefused, bundle_of};
-ghost use Rattle.fetch_check.specs.Refusals.{AreReached, is_memory, write_trouble};
-ghost use Rattle.fetch_check.specs.Sound.{IsSound};
+ghost use Rattle.fetch_check.specs.Reading.{IsBundle, IsReading, IsRefused, bundle_of};
+ghost use Rattle.fetch_check.specs.Refusals.{AreReached, is_memory};
+ghost use Rattle.fetch_check.specs.Writing.{IsTextOf};
 ghost use Rattle.fetch_check.specs.declared.error.BundleError.{BundleError};
 ghost use Rattle.fetch_check.specs.declared.reading.Bundle.{Bundle};
 
@@ -57,11 +58,12 @@ pub fn bundled_packs_are_read()
         }) }
 {}
 
-/// What is bundled of a repository is a bundle, where `write_bundle` has no trouble with it. So its text is read back as the
-/// same references, the border's commits among the reached objects, and the reached objects.
+/// What `write_bundle` writes is read back, unless memory runs out: the same references, the border's commits among the
+/// reached objects, and the reached objects.
 pub fn a_bundle_reads_back()
-    ensures { (hash : Kind) (names : Names) (h : Holding) (ids : List ObjectId) → IsSound hash names h → AreReached names h ids
-        → Fits V2 (payloads_of (objects_at h.objects ids)) → write_trouble names h ≡ None → IsBundle (bundled hash names h ids) }
+    ensures { (hash : Kind) (names : Names) (h : Holding) (text : List ℕ) (found : Result Bundle BundleError)
+        → (written : IsTextOf hash names h text) → IsReading text found
+        → AnswersBy bundle_of is_memory (Ok (bundled hash names h written.ids)) found }
 {}
 
 /// Each text is refused for one cause at most, and no bundle's text for any.

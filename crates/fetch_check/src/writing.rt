@@ -1,8 +1,9 @@
 //! Writing a bundle.
 
-ghost use Rattle.std.specs.Prelude.{◌≡◌, ◌<◌, ◌^◌, ◌++◌, ◌∷◌, [], All, None, Some, List as Items, filter, option_map, slice_get};
+ghost use Rattle.std.specs.Prelude.{◌≡◌, ◌<◌, ◌^◌, ◌++◌, ◌∷◌, ℕ, [], All, None, Some, List as Items, filter, option_map, slice_get};
 ghost use Rattle.std.specs.Prelude.{IfOk, IsTrue, OnOk, OnErr};
 ghost use Rattle.std.specs.FinMap as map;
+ghost use Rattle.std.specs.List.{AllByRecursion};
 ghost use Rattle.std.specs.List.Sorted.{IsStrictlySortedBy};
 ghost use Rattle.fetch_base.specs.Answers.{RefusesUnless};
 ghost use Rattle.fetch_specs.specs.Names.{is_full_name};
@@ -10,9 +11,10 @@ ghost use Rattle.fetch_store.specs.Borders.{ids_of};
 ghost use Rattle.fetch_store.specs.Closed.{holding};
 ghost use Rattle.fetch_base.specs.declared.id.ObjectId.{ObjectId as Id};
 ghost use Rattle.fetch_base.specs.Id.{id_cmp};
-ghost use Rattle.fetch_pack.specs.Records.{pack_text, payloads_of};
+ghost use Rattle.fetch_pack.specs.Records.{Fits, pack_text, payloads_of};
 ghost use Rattle.fetch_pack.specs.Texts.{Keeps};
 ghost use Rattle.fetch_pack.specs.declared.version.PackVersion.TheVariants.{V2};
+ghost use Rattle.fetch_refs.specs.Full.{IsFull};
 ghost use Rattle.fetch_refs.specs.Targets.{seen};
 ghost use Rattle.fetch_lines.specs.LineViews.{line_of};
 ghost use Rattle.fetch_lines.specs.Requests.{sent};
@@ -24,6 +26,8 @@ ghost use Rattle.fetch_check.specs.Bundles as spec;
 ghost use Rattle.fetch_check.specs.Bundles.{bundle_text, bundled, first_long};
 ghost use Rattle.fetch_check.specs.Finding.{missing_pairs};
 ghost use Rattle.fetch_check.specs.Refusals.{AreReached, is_memory, write_trouble};
+ghost use Rattle.fetch_check.specs.Sound.{IsSound};
+ghost use Rattle.fetch_check.specs.Writing.{IsTextOf};
 ghost use Rattle.fetch_check.specs.declared.error.BundleError.TheVariants.{NameTooLong};
 
 use crate::breaking::{first_broken, full_name};
@@ -32,7 +36,7 @@ use crate::error::BundleError;
 use crate::leaving::reached_from_refs;
 use fetch_lines::{LineRef, WireError, write_line};
 use fetch_pack::PackVersion;
-use fetch_reach::write_stored;
+use fetch_reach::{stored_objects_are_objects, write_stored};
 use fetch_refs::{Refs, TargetRef};
 use fetch_store::{
     Border, Kind, Missing, NoMemory, ObjectId, Store, append_hex, first_missing, same_id,
@@ -43,8 +47,8 @@ use std::alloc::Global;
 pub(crate) const PIECE: usize = 65_000;
 
 /// Puts the bundle of a repository at the end: its references, the objects that the direct ones reach, and the border's
-/// commits among these. It keeps no reflogs, and no objects that aren't reached. `Missing`, `Broken` and `NameTooLong`
-/// come in that order. A refusal leaves the output as before.
+/// commits among these. So `read_bundle` reads it back. It keeps no reflogs, and no objects that aren't reached. `Missing`,
+/// `Broken` and `NameTooLong` come in that order. A refusal leaves the output as before.
 ///
 /// Room for the pack is made at once, and it is written there: beside the text it takes memory for the ids of what is
 /// reached, and for one line.
@@ -57,9 +61,8 @@ pub fn write_bundle(
 ) -> Result<(), BundleError>
     requires few { map.len store.now.objects < 2 ^ 32 }
     requires own { AreOwnIds store.now.objects }
-    ensures text { OnOk result ((ids : Items Id) × AreReached refs.now.names (holding store.now.objects border.now) ids
-        × (out.new.items ≡ out.old.items ++ bundle_text
-        (bundled store.now.hash refs.now.names (holding store.now.objects border.now) ids))) }
+    ensures text { OnOk result ((text : Items ℕ) × IsTextOf store.now.hash refs.now.names (holding store.now.objects border.now) text
+        × (out.new.items ≡ out.old.items ++ text)) }
     ensures refused { RefusesUnless is_memory (write_trouble refs.now.names (holding store.now.objects border.now)) result }
     ensures err { OnErr result (out.new.items ≡ out.old.items) }
 {
@@ -86,6 +89,7 @@ fn first_link(store: &Store, border: &Border) -> Option<Missing>
 {
     match first_missing(store, border) {
         Ok(link) => link,
+        // It never refuses.
         Err(_) => None,
     }
 }
@@ -104,8 +108,11 @@ fn append_bundle(
     ensures text { OnOk result (out.new.items ≡ out.old.items
         ++ bundle_text (bundled store.now.hash refs.now.names (holding store.now.objects border.now) ids.now)) }
     ensures refused { RefusesUnless is_memory (option_map (λ name. NameTooLong name) (first_long refs.now.names)) result }
+    ensures sound { OnOk result (IsSound store.now.hash refs.now.names (holding store.now.objects border.now)) }
+    ensures fits { OnOk result (Fits V2 (payloads_of (objects_at store.now.objects ids.now))) }
     ensures keeps { OnErr result (Keeps out.old.items out.new.items) }
 {
+    stored_objects_are_objects(store);
     append_head(store.kind(), out)?;
     append_references(alloc, refs, out)?;
     append_border(alloc, border, ids, out)?;
@@ -123,6 +130,7 @@ pub(crate) fn append_line(out: &mut Vec<u8>, line: LineRef<'_>) -> Result<(), No
 {
     match write_line(out, line) {
         Ok(()) => Ok(()),
+        // The line isn't too long, so memory alone refuses.
         Err(_) => Err(NoMemory),
     }
 }
@@ -143,6 +151,7 @@ fn append_head(hash: Kind, out: &mut Vec<u8>) -> Result<(), NoMemory>
 /// A line for each reference, by ascending name.
 fn append_references(alloc: Global, refs: &Refs, out: &mut Vec<u8>) -> Result<(), BundleError>
     ensures lines { OnOk result (out.new.items ≡ out.old.items ++ lines_text (spec.ref_lines refs.now.names)) }
+    ensures full { OnOk result (AllByRecursion IsFull (map.entries refs.now.names)) }
     ensures refused { RefusesUnless is_memory (option_map (λ name. NameTooLong name) (first_long refs.now.names)) result }
     ensures keeps { OnErr result (Keeps out.old.items out.new.items) }
 {
@@ -168,6 +177,7 @@ fn append_reference(
     match write_line(out, LineRef::Payload(text.as_slice())) {
         Ok(()) => Ok(()),
         Err(WireError::LineTooLong { .. }) => too_long(alloc, name),
+        // Memory alone refuses else.
         Err(_) => Err(BundleError::NoMemory),
     }
 }
@@ -273,6 +283,7 @@ fn append_pack(
     requires fits { CanHold V2 (objects_at store.now.objects ids.now) }
     ensures lines { OnOk result (out.new.items ≡ out.old.items
         ++ lines_text (spec.piece_lines (pack_text V2 store.now.hash (payloads_of (objects_at store.now.objects ids.now))))) }
+    ensures fits { OnOk result (Fits V2 (payloads_of (objects_at store.now.objects ids.now))) }
     ensures keeps { OnErr result (Keeps out.old.items out.new.items) }
 {
     let start = out.len();

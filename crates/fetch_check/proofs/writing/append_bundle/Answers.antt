@@ -57,3 +57,11 @@ returns-clause-text c =
     let pack = next_part old (H ++ R ++ B ++ line_text Delim) c.append_line.new.out.items c.append_pack.new.out.items P delim c.in_ok-append_pack.ensures.lines in
     let flush = next_part old (H ++ R ++ B ++ line_text Delim ++ P) c.append_pack.new.out.items c.append_line-2.new.out.items (line_text Flush) pack c.in_ok-append_line-2.ensures.line in
     flush ∙ ap (λ (t : List ℕ). old ++ t) (in_parts hash names (holding objects c.args.border.now) ids)
+
+pub returns-clause-sound : goal.returns-clause-sound
+returns-clause-sound c = record {
+  of_hash = c.kind.ensures.objects;
+  objects = c.stored_objects_are_objects.ensures;
+  own = c.requires.own;
+  full = c.in_ok-append_references.ensures.full;
+}
