@@ -27,7 +27,7 @@ use Rattle.fetch_check.specs.Reading.{AreReferences, AreBorderIds}
 use Rattle.fetch_check.specs.Scanning.{is_above}
 use Rattle.fetch_check.proofs.Ordered.{all_more, last_below, last_of, one_sorted, sorted_more}
 
-last_got : {X : Type 0} (xs : List X) (x : X) → slice_get (xs ++ x ∷ []) (length (xs ++ x ∷ []) - 1) ≡ Some x
+pub last_got : {X : Type 0} (xs : List X) (x : X) → slice_get (xs ++ x ∷ []) (length (xs ++ x ∷ []) - 1) ≡ Some x
 last_got xs x =
     let n = length-append xs (x ∷ []) in
     let i : length (xs ++ x ∷ []) - 1 ≡ length xs = omega arith in

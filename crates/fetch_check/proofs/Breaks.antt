@@ -208,7 +208,7 @@ module _ (bytes : List ℕ) (hash : Kind) (es : List Reference) (ids : List Obje
 
     -- ---- the end
 
-    abbrev said : Said
+    abbrev pub said : Said
     said = said_of hash es ids ps
 
     the_lines : lines ++ Flush ∷ [] ≡ said_lines said

@@ -106,7 +106,7 @@ id_line bytes place next payload hash id stand told = subst (λ (p : List ℕ). 
 
 -- ---- where the next one isn't above those before
 
-same_reference_line : (bytes : List ℕ) (place next : ℕ) (hash : Kind) (e f : List ℕ × Target) (rest : List ℕ) → Stand bytes place (ref_line e ∷ []) next → IsReference hash e → IsReference hash f → IsWritten (ref_line f)
+pub same_reference_line : (bytes : List ℕ) (place next : ℕ) (hash : Kind) (e f : List ℕ × Target) (rest : List ℕ) → Stand bytes place (ref_line e ∷ []) next → IsReference hash e → IsReference hash f → IsWritten (ref_line f)
     → drop place bytes ≡ line_text (ref_line f) ++ rest → e ≡ f
 same_reference_line bytes place next hash e f rest stand ie is w at = same_reference hash e f ie is (the_line bytes place next (ref_line e) (ref_line f) rest stand w at)
 
@@ -120,11 +120,15 @@ not_above bytes place next hash before e stand ie lower f rest may w at =
 pub none_more : (bytes : List ℕ) (place : ℕ) (hash : Kind) (before : List (List ℕ × Target)) → NoneStands ref_line (IsReference hash) bytes place → NoneStands ref_line (λ f. AreReferences hash (before ++ f ∷ [])) bytes place
 none_more bytes place hash before none f rest may w at = none f rest (reference_last hash before f may).0 w at
 
+pub same_border_line : (bytes : List ℕ) (place next : ℕ) (hash : Kind) (id q : ObjectId) (rest : List ℕ) → Stand bytes place (border_line id ∷ []) next → IsOfHash hash id → IsOfHash hash q → IsWritten (border_line q)
+    → drop place bytes ≡ line_text (border_line q) ++ rest → id ≡ q
+same_border_line bytes place next hash id q rest stand is iq w at = same_border hash id q is iq (the_line bytes place next (border_line id) (border_line q) rest stand w at)
+
 pub id_not_above : (bytes : List ℕ) (place next : ℕ) (hash : Kind) (before : List ObjectId) (id : ObjectId) → Stand bytes place (border_line id ∷ []) next → IsOfHash hash id
     → is_above id_cmp (λ (x : ObjectId). x) before id ≡ false → NoneStands border_line (λ q. AreBorderIds hash (before ++ q ∷ [])) bytes place
 id_not_above bytes place next hash before id stand is lower q rest may w at =
     let last = id_last hash before q may in
-    let same = same_border hash id q is last.0 (the_line bytes place next (border_line id) (border_line q) rest stand w at) in
+    let same = same_border_line bytes place next hash id q rest stand is last.0 w at in
     true≢false (sym last.1 ∙ ap (λ (x : ObjectId). is_above id_cmp (λ (y : ObjectId). y) before x) (sym same) ∙ lower)
 
 pub no_more_ids : (bytes : List ℕ) (place : ℕ) (hash : Kind) (before : List ObjectId) → NoneStands border_line (IsOfHash hash) bytes place → NoneStands border_line (λ q. AreBorderIds hash (before ++ q ∷ [])) bytes place

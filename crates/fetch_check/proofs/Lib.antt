@@ -20,6 +20,7 @@ pub mod Edited
 pub mod Parts
 pub mod ReadBack
 pub mod Steps
+pub mod FirstBreaks
 pub mod Above
 pub mod Found
 pub mod Counts

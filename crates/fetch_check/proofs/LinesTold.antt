@@ -1,6 +1,6 @@
 -- What the payloads of a bundle's lines tell.
-use Rattle.std.proofs.Common.{◌≡◌, ℕ, List, [], ◌∷◌, ◌++◌, Option, Some, None, codes, append_assoc, refl, sym, ap, subst, ◌∙◌}
-use Rattle.std.specs.Prelude.{IfSome, IsTrue, option_map}
+use Rattle.std.proofs.Common.{◌≡◌, ℕ, true, List, [], ◌∷◌, ◌++◌, Option, Some, None, codes, append_assoc, refl, sym, ap, subst, ◌∙◌}
+use Rattle.std.specs.Prelude.{IfSome, IsTrue, is_some, option_map}
 use Rattle.fetch_specs.specs.Names.{is_full_name}
 use Rattle.fetch_base.specs.declared.id.Kind.{Kind}
 use Rattle.fetch_base.specs.declared.id.ObjectId.{ObjectId}
@@ -104,6 +104,11 @@ no_symbolic hash text name found none (Symbolic n) is target =
 pub no_object : (hash : Kind) (text : List ℕ) → after (64 ∷ []) text ≡ None → ((id : ObjectId) → text ≡ hex_of id → id_in_hex hash text ≡ Some id → ⊥) → (t : Target) → text ≡ target_text t → IsTarget hash t → ⊥
 no_object hash text bare none (Object id) is target = none id is (ap (id_in_hex hash) is ∙ target)
 no_object hash text bare none (Symbolic n) is target = no_word (64 ∷ []) text bare n is
+
+-- an id that digits spell is a target
+pub told_object : (hash : Kind) (text : List ℕ) (o : Option ObjectId) → IfSome o (λ id. text ≡ hex_of id) → IfSome o (λ id. id_in_hex hash text ≡ Some id) → is_some o ≡ true → (t : Target) × (text ≡ target_text t) × IsTarget hash t
+told_object hash text None written spelled some = absurd cc
+told_object hash text (Some id) written spelled some = (Object id, written, ap (id_in_hex hash) (sym written) ∙ spelled)
 
 -- ---- the border
 

@@ -205,18 +205,20 @@ module _ (bytes : List ℕ) where
   unless false P f = f refl
 
   pub is_reading : (r : Result Bundle BundleError) → IfOk r (λ x. IsBundle (bundle_of x) × (bytes ≡ bundle_text (bundle_of x))) → IfOk r (λ x. x.refs ≡ refs_alone x.hash x.refs.names) → IfErr r (λ e. IsRefused bytes e)
-      → IsReading bytes r
-  is_reading (Ok x) found alone refused = record {
+      → ((place : ℕ) → BreaksAt bytes place → r ≡ Err (Malformed place)) → IsReading bytes r
+  is_reading (Ok x) found alone refused at_once = record {
     found = found;
     only = λ b is text. ap (λ (y : Bundled). Ok y) (one_bundle (bundle_of x) b found.0 is found.1 text);
     alone = alone;
     refused = refused;
     exact = λ e m cause. absurd (refused_bundle e (bundle_of x) m cause found.0 found.1);
+    at_once = at_once;
   }
-  is_reading (Err f) found alone refused = record {
+  is_reading (Err f) found alone refused at_once = record {
     found = found;
     only = λ b is text. unless (is_memory f) (Ok b ≡ Err f) (λ m. absurd (refused_bundle f b m refused is text));
     alone = alone;
     refused = refused;
     exact = λ e m cause. unless (is_memory f) (Err e ≡ Err f) (λ n. ap (λ (y : BundleError). Err y) (refused_one e f m n cause refused));
+    at_once = at_once;
   }

@@ -161,3 +161,5 @@ pub record IsReading (bytes : List ℕ) (result : Result Bundle BundleError) : T
   pub refused : IfErr result (λ e. IsRefused bytes e)
   -- Where the bytes have a cause, it is refused for that one.
   pub exact : (e : BundleError) → is_memory e ≡ false → IsRefused bytes e → AnswersBy bundle_of is_memory (Err e) result
+  -- A line that breaks is told for certain, never as out of memory.
+  pub at_once : (place : ℕ) → BreaksAt bytes place → result ≡ Err (Malformed place)

@@ -1,5 +1,5 @@
 -- Lines of a bundle, where they stand in its bytes.
-use Rattle.std.specs.Prelude.{◌≡◌, ◌≢◌, ℕ, ◌+◌, ◌-◌, ◌≤◌, Bool, true, List, [], ◌∷◌, ◌++◌, length, drop, map, None, slice_get}
+use Rattle.std.specs.Prelude.{◌≡◌, ◌≢◌, ℕ, ◌+◌, ◌-◌, ◌≤◌, Bool, true, List, [], ◌∷◌, ◌++◌, length, drop, map, Option, None, slice_get}
 use Rattle.std.specs.List.{AllByRecursion}
 use Rattle.std.specs.Option.{option_map_or}
 use Rattle.std.specs.Ordering.{is_lt}
@@ -38,6 +38,10 @@ pub record Stand (bytes : List ℕ) (place : ℕ) (lines : List Line) (next : �
 abbrev pub NoneStands : {X : Type 0} → (X → Line) → (X → Type 0) → List ℕ → ℕ → Type 0
 NoneStands {X = X} line Is bytes place = (x : X) (rest : List ℕ) → Is x → IsWritten (line x)
     → drop place bytes ≡ line_text (line x) ++ rest → ⊥
+
+-- whether a key is above the last one, if there is one
+abbrev pub is_above_last : {K : Type 0} → (K → K → Ordering) → Option K → K → Bool
+is_above_last cmp last k = option_map_or (λ x. is_lt (cmp x k)) last true
 
 -- whether a key is above that of the last element, if there is one
 abbrev pub is_above : {X K : Type 0} → (K → K → Ordering) → (X → K) → List X → K → Bool

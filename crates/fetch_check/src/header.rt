@@ -1,6 +1,6 @@
 //! The lines of a bundle: its head, its references, its border, and the pieces of its pack.
 
-ghost use Rattle.std.specs.Prelude.{◌≡◌, ◌↔◌, ◌≤◌, ◌++◌, ◌∷◌, ℕ, [], List as Items, None, Ok, true};
+ghost use Rattle.std.specs.Prelude.{◌≡◌, ◌↔◌, ◌≤◌, ◌++◌, ◌∷◌, ℕ, [], List as Items, None, Ok, false, true};
 ghost use Rattle.std.specs.Prelude.{IfErr, IfOk, IfSome, IsTrue, length, option_map};
 ghost use Rattle.std.specs.List.{concat};
 ghost use Rattle.std.specs.Option.{option_copied};
@@ -11,7 +11,9 @@ ghost use Rattle.fetch_lines.specs.Requests.{sent};
 ghost use Rattle.fetch_lines.specs.declared.lines.line.Line.TheVariants.{Payload};
 ghost use Rattle.fetch_check.specs.Bundles.{border_line, head_texts, ref_line};
 ghost use Rattle.fetch_check.specs.Payloads.{IsOfHash, IsReference};
-ghost use Rattle.fetch_check.specs.Reading.{AreBorderIds, ArePieces, AreReferences, IsPiece, IsRefused};
+ghost use Rattle.fetch_check.specs.Reading.{AreBorderIds, ArePieces, AreReferences, IsPiece};
+ghost use Rattle.fetch_check.specs.ReadSteps.{IsBreak};
+ghost use Rattle.fetch_check.specs.Refusals.{is_memory};
 ghost use Rattle.fetch_check.specs.Scanning as spec;
 ghost use Rattle.fetch_check.specs.Scanning.{AreRead, NoneStands, Stand};
 
@@ -28,7 +30,8 @@ use std::alloc::Global;
 /// The hash that the first two lines tell, and where they end.
 pub(crate) fn read_head(bytes: &[u8]) -> Result<(Kind, usize), BundleError>
     ensures head { IfOk result (λ x. Stand bytes.now 0 (sent (head_texts x.0)) x.1) }
-    ensures refused { IfErr result (λ e. IsRefused bytes.now e) }
+    ensures refused { IfErr result (λ e. IsBreak bytes.now e) }
+    ensures certain { IfErr result (λ e. is_memory e ≡ false) }
 {
     let Some(place) = end_of(bytes, 0, b"000dbundle 1\n") else {
         return Err(BundleError::Malformed { place: 0 });
@@ -167,7 +170,7 @@ fn next_id(hash: Kind, bytes: &[u8], place: usize, before: &[ObjectId]) -> Optio
 }
 
 /// The commit of the border that the line at a place tells, and where the line ends.
-fn id_at(hash: Kind, bytes: &[u8], place: usize) -> Option<(ObjectId, usize)>
+pub(crate) fn id_at(hash: Kind, bytes: &[u8], place: usize) -> Option<(ObjectId, usize)>
     requires { place ≤ length bytes.now }
     ensures line { IfSome result (λ x. Stand bytes.now place (border_line x.0 ∷ []) x.1) }
     ensures told { IfSome result (λ x. IsOfHash hash x.0) }
@@ -210,7 +213,7 @@ pub(crate) fn read_pieces(
 }
 
 /// The piece at a place, where all pieces before it are full, and where its line ends.
-fn next_piece(bytes: &[u8], place: usize, are_full: bool) -> Option<(&[u8], usize)>
+pub(crate) fn next_piece(bytes: &[u8], place: usize, are_full: bool) -> Option<(&[u8], usize)>
     requires { place ≤ length bytes.now }
     ensures line { IfSome result (λ x. Stand bytes.now place (Payload x.0.now ∷ []) x.1) }
     ensures piece { IfSome result (λ x. IsPiece x.0.now) }
@@ -236,7 +239,7 @@ fn is_piece(payload: &[u8]) -> bool
 }
 
 /// The payload of the line at a place, and where the line ends.
-fn payload_at(bytes: &[u8], place: usize) -> Option<(&[u8], usize)>
+pub(crate) fn payload_at(bytes: &[u8], place: usize) -> Option<(&[u8], usize)>
     requires { place ≤ length bytes.now }
     ensures line { IfSome result (λ x. Stand bytes.now place (Payload x.0.now ∷ []) x.1) }
     ensures none { result ≡ None → NoneStands (λ (payload : Items ℕ). Payload payload) (λ payload. Unit {0}) bytes.now place }

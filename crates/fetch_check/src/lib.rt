@@ -6,6 +6,7 @@ mod checking;
 mod cutting;
 mod error;
 mod findings;
+mod first_break;
 mod header;
 mod keep_error;
 mod keeping;

@@ -1,6 +1,6 @@
 //! What the lines of a bundle tell of references and of the border.
 
-ghost use Rattle.std.specs.Prelude.{◌≡◌, ◌++◌, ◌∷◌, ℕ, [], List as Items, None, Some, Ok, IfOk, IfSome, IsTrue, codes};
+ghost use Rattle.std.specs.Prelude.{◌≡◌, ◌++◌, ◌∷◌, ℕ, [], List as Items, None, Some, Ok, false, IfOk, IfSome, IsTrue, codes};
 ghost use Rattle.std.specs.Option.{option_copied};
 ghost use Rattle.fetch_specs.specs.Names.{is_full_name};
 ghost use Rattle.fetch_base.specs.Digits.{hex_of};
@@ -64,6 +64,32 @@ fn target(alloc: Global, hash: Kind, text: &[u8]) -> Result<Option<Target>, NoMe
             Some(id) => Ok(Some(Target::Object(id))),
             None => Ok(None),
         },
+    }
+}
+
+/// The name of the reference that a payload tells, if it tells one. This takes no memory.
+pub(crate) fn name_told(hash: Kind, payload: &[u8]) -> Option<&[u8]>
+    ensures told { IfSome (option_copied result) (λ name. (t : Leads) × TellsReference hash payload.now (name, t)) }
+    ensures none { result ≡ None → (e : Items ℕ × Leads) → TellsReference hash payload.now e → ⊥ }
+{
+    let (first, name) = reference_parts(payload)?;
+    if !tells_target(hash, first) {
+        return None;
+    }
+    if !FullName::is_valid(name) {
+        return None;
+    }
+    Some(name)
+}
+
+/// Whether a text tells a target.
+fn tells_target(hash: Kind, text: &[u8]) -> bool
+    ensures told { IsTrue result → (t : Leads) × (text.now ≡ target_text t) × IsTarget hash t }
+    ensures none { result ≡ false → (t : Leads) → text.now ≡ target_text t → IsTarget hash t → ⊥ }
+{
+    match after(b"@", text) {
+        Some(name) => FullName::is_valid(name),
+        None => lower_id(hash, text).is_some(),
     }
 }
 

@@ -1,6 +1,6 @@
 //! Reading a bundle.
 
-ghost use Rattle.std.specs.Prelude.{◌≡◌, List as Items, Ok, IfErr, IfOk};
+ghost use Rattle.std.specs.Prelude.{◌≡◌, ℕ, List as Items, Ok, Err, IfErr, IfOk};
 ghost use Rattle.fetch_store.specs.Borders.{set_of};
 ghost use Rattle.fetch_store.specs.Stores.{AreOf, map_of};
 ghost use Rattle.fetch_pack.specs.Packs.{IsPack, contents_of};
@@ -9,10 +9,13 @@ ghost use Rattle.fetch_pack.specs.Views.{contents};
 ghost use Rattle.fetch_pack.specs.declared.version.PackVersion.{PackVersion as Version};
 ghost use Rattle.fetch_check.specs.Bundles.{bundle_text};
 ghost use Rattle.fetch_check.specs.Reading as spec;
-ghost use Rattle.fetch_check.specs.Reading.{HoldsWhole, IsReading, IsRefused, Says, bundle_of, pack_place, pack_read, refs_alone};
+ghost use Rattle.fetch_check.specs.Reading.{BreaksAt, HoldsWhole, IsReading, IsRefused, Says, bundle_of, pack_place, pack_read, refs_alone};
 ghost use Rattle.fetch_check.specs.ReadSteps as steps;
+ghost use Rattle.fetch_check.specs.ReadSteps.{IsBreak};
+ghost use Rattle.fetch_check.specs.declared.error.BundleError.TheVariants as errors;
 
 use crate::error::BundleError;
+use crate::first_break::first_break;
 use crate::header::{read_border, read_head, read_pieces, read_references};
 use crate::making::refs_of;
 use crate::scanning::end_of;
@@ -54,7 +57,7 @@ impl Bundle {
 /// may not stand there, or the length where a line is missing. Where the lines hold, `Pack` tells why the pack isn't read;
 /// a pack of version 1 is `Malformed` at its place 4. Where it is read, `Malformed` tells the start of its first line if
 /// its ids don't ascend, aren't those that the direct references reach, or aren't closed under the border, or a reference
-/// is broken. Besides these only out of memory refuses.
+/// is broken. Besides these only out of memory refuses, but never where a line breaks.
 ///
 /// Beside the text it takes memory for the joined pack and its objects, and then for these in a list and a store: about
 /// twice the text's bytes where objects are large, and 2.8 times where they are commits of 150 bytes.
@@ -68,13 +71,13 @@ pub fn read_bundle<R: Threads + Sync>(
     read_whole(rt, alloc, bytes)
 }
 
-/// `read_bundle`.
 fn read_whole<R: Threads + Sync>(rt: &R, alloc: Global, bytes: &[u8]) -> Result<Bundle, BundleError>
     ensures found { IfOk result (λ x. spec.IsBundle (bundle_of x) × (bytes.now ≡ bundle_text (bundle_of x))) }
     ensures alone { IfOk result (λ x. x.refs ≡ refs_alone x.hash x.refs.names) }
     ensures refused { IfErr result (λ e. IsRefused bytes.now e) }
+    ensures at_once { (place : ℕ) → BreaksAt bytes.now place → result ≡ Err (errors.Malformed place) }
 {
-    let Parts { header, pack } = read_parts(alloc, bytes)?;
+    let Parts { header, pack } = read_lines(alloc, bytes)?;
     match open_pack(rt, alloc, header.hash, pack) {
         Ok(pack) => whole_bundle(alloc, header, pack),
         Err(e) => Err(e),
@@ -98,11 +101,26 @@ struct Parts {
     pack: Vec<u8>,
 }
 
+/// What the lines say. A line that breaks is told also where memory ran out before it was reached.
+fn read_lines(alloc: Global, bytes: &[u8]) -> Result<Parts, BundleError>
+    ensures says { IfOk result (λ x. Says bytes.now (steps.said_by x)) }
+    ensures place { IfOk result (λ x. x.header.place ≡ pack_place (steps.said_by x)) }
+    ensures alone { IfOk result (λ x. x.header.refs ≡ refs_alone x.header.hash x.header.refs.names) }
+    ensures refused { IfErr result (λ e. IsBreak bytes.now e) }
+    ensures at_once { (place : ℕ) → BreaksAt bytes.now place → result ≡ Err (errors.Malformed place) }
+{
+    match read_parts(alloc, bytes) {
+        Ok(parts) => Ok(parts),
+        Err(BundleError::NoMemory) => Err(first_break(bytes)),
+        Err(e) => Err(e),
+    }
+}
+
 fn read_parts(alloc: Global, bytes: &[u8]) -> Result<Parts, BundleError>
     ensures says { IfOk result (λ x. Says bytes.now (steps.said_by x)) }
     ensures place { IfOk result (λ x. x.header.place ≡ pack_place (steps.said_by x)) }
     ensures alone { IfOk result (λ x. x.header.refs ≡ refs_alone x.header.hash x.header.refs.names) }
-    ensures refused { IfErr result (λ e. IsRefused bytes.now e) }
+    ensures refused { IfErr result (λ e. IsBreak bytes.now e) }
 {
     let (hash, place) = read_head(bytes)?;
     let (references, place) = read_references(alloc, hash, bytes, place)?;
@@ -133,6 +151,7 @@ fn border_of(alloc: Global, ids: &[ObjectId]) -> Result<Border, NoMemory>
 {
     match Border::from_ids(alloc, ids) {
         Ok(border) => Ok(border),
+        // Memory alone refuses.
         Err(_) => Err(NoMemory),
     }
 }
@@ -149,6 +168,7 @@ fn open_pack<R: Threads + Sync>(
         × IsPack v hash bytes.items ps × (contents pack ≡ contents_of v hash ps)) }
     ensures of_hash { IfOk result (λ pack. AreOf hash pack.objects) }
     ensures refused { IfErr result (λ e. steps.IsPackRefused hash bytes.items e) }
+    ensures at_once { IfErr (steps.pack_opened hash bytes.items) (λ e. result ≡ Err (errors.Pack e)) }
 {
     if bytes.starts_with(b"PLNP\0\0\0\x01") {
         return Err(BundleError::Pack(PackError::Malformed { place: 4 }));
@@ -191,7 +211,7 @@ fn whole_bundle(alloc: Global, header: Header, pack: Pack) -> Result<Bundle, Bun
     })
 }
 
-/// A store of these objects.
+/// A store of these objects, of which no two have one id.
 pub(crate) fn store_of(
     alloc: Global,
     hash: Kind,
@@ -204,6 +224,7 @@ pub(crate) fn store_of(
     let mut store = Store::new(alloc, hash);
     match store.add_all(objects) {
         Ok(()) => Ok(store),
+        // No two have one id, so memory alone refuses.
         Err(_) => Err(NoMemory),
     }
 }

@@ -1,4 +1,4 @@
-use Rattle.std.proofs.Common.{ap, inl, refl, subst, sym, ◌∙◌}
+use Rattle.std.proofs.Common.{ap, refl, subst, sym, ◌∙◌}
 use Rattle.std.specs.FinMap as finmap
 use Rattle.std.specs.List.{concat}
 use Rattle.fetch_store.specs.Borders.{set_of}
@@ -9,20 +9,20 @@ use Rattle.fetch_check.proofs.reading.read_parts.Goals as goal
 
 pub returns-in_default-clause-refused : goal.returns-in_default-clause-refused
 returns-in_default-clause-refused c =
-    inl (no_delimiter c.args.bytes.now c.in_ok-hash.hash c.in_ok-references.references.items c.in_ok-ids.ids.items c.in_ok-hash.place c.in_ok-references.place c.in_ok-ids.place c.in_ok-hash.ensures.head c.in_ok-references.ensures c.in_ok-ids.ensures
-    (c.in_default.ensures.other refl))
+    no_delimiter c.args.bytes.now c.in_ok-hash.hash c.in_ok-references.references.items c.in_ok-ids.ids.items c.in_ok-hash.place c.in_ok-references.place c.in_ok-ids.place c.in_ok-hash.ensures.head c.in_ok-references.ensures c.in_ok-ids.ensures
+    (c.in_default.ensures.other refl)
 
 pub returns-in_default-end_of-clause-refused : goal.returns-in_default-end_of-clause-refused
 returns-in_default-end_of-clause-refused c =
     let p = c.in_ok-pack.ensures in
-    inl (no_end c.args.bytes.now c.in_ok-hash.hash c.in_ok-references.references.items c.in_ok-ids.ids.items c.in_ok-hash.place c.in_ok-references.place c.in_ok-ids.place c.in_ok-hash.ensures.head c.in_ok-references.ensures c.in_ok-ids.ensures
-    c.in-Some.place c.in_ok-pack.end p.0 c.in-Some.ensures.there p.2 (c.in_default-end_of.ensures.other refl))
+    no_end c.args.bytes.now c.in_ok-hash.hash c.in_ok-references.references.items c.in_ok-ids.ids.items c.in_ok-hash.place c.in_ok-references.place c.in_ok-ids.place c.in_ok-hash.ensures.head c.in_ok-references.ensures c.in_ok-ids.ensures
+    c.in-Some.place c.in_ok-pack.end p.0 c.in-Some.ensures.there p.2 (c.in_default-end_of.ensures.other refl)
 
 pub returns-then-end-bytes-clause-refused : goal.returns-then-end-bytes-clause-refused
 returns-then-end-bytes-clause-refused c =
     let p = c.in_ok-pack.ensures in
-    inl (behind_end c.args.bytes.now c.in_ok-hash.hash c.in_ok-references.references.items c.in_ok-ids.ids.items c.in_ok-hash.place c.in_ok-references.place c.in_ok-ids.place c.in_ok-hash.ensures.head c.in_ok-references.ensures c.in_ok-ids.ensures
-    c.in-Some.place c.in_ok-pack.end p.0 c.in-Some.ensures.there p.2 c.in-Some-end_of.end c.in-Some-end_of.ensures.there c.if-end-bytes.true)
+    behind_end c.args.bytes.now c.in_ok-hash.hash c.in_ok-references.references.items c.in_ok-ids.ids.items c.in_ok-hash.place c.in_ok-references.place c.in_ok-ids.place c.in_ok-hash.ensures.head c.in_ok-references.ensures c.in_ok-ids.ensures
+    c.in-Some.place c.in_ok-pack.end p.0 c.in-Some.ensures.there p.2 c.in-Some-end_of.end c.in-Some-end_of.ensures.there c.if-end-bytes.true
 
 pub returns-clause-says : goal.returns-clause-says
 returns-clause-says c =

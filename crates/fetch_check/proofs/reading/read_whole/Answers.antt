@@ -2,7 +2,18 @@ use Rattle.std.proofs.Common.{refl}
 use Rattle.fetch_pack.specs.Views.{contents}
 use Rattle.fetch_check.specs.ReadSteps.{said_by}
 use Rattle.fetch_check.proofs.Answered.{if_found, if_part_refused, pack_refused}
+use Rattle.fetch_check.proofs.FirstBreaks.{break_refused}
+use Rattle.fetch_check.proofs.Unique.{break_says}
 use Rattle.fetch_check.proofs.reading.read_whole.Goals as goal
+
+pub returns-in_err-header-clause-refused : goal.returns-in_err-header-clause-refused
+returns-in_err-header-clause-refused g c = break_refused c.args.bytes.now _ c.in_err-header.ensures.refused
+
+pub returns-in-Err-clause-at_once : goal.returns-in-Err-clause-at_once
+returns-in-Err-clause-at_once g c = λ place breaks. absurd (break_says c.args.bytes.now place (said_by c.in_ok-header.field-0) breaks c.in_ok-header.ensures.says)
+
+pub returns-in-Ok-clause-at_once : goal.returns-in-Ok-clause-at_once
+returns-in-Ok-clause-at_once g c = λ place breaks. absurd (break_says c.args.bytes.now place (said_by c.in_ok-header.field-0) breaks c.in_ok-header.ensures.says)
 
 pub returns-in-Err-clause-refused : goal.returns-in-Err-clause-refused
 returns-in-Err-clause-refused g c = pack_refused c.args.bytes.now (said_by c.in_ok-header.field-0) c.in-Err.e c.in_ok-header.ensures.says c.in-Err.ensures.refused
