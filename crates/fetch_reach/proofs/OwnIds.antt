@@ -10,7 +10,7 @@ use Rattle.fetch_base.specs.declared.id.ObjectId.{ObjectId}
 use Rattle.fetch_objects.specs.Objects.{Stored}
 use Rattle.fetch_store.specs.Stores.{AreOf, Entries, ObjectMap}
 use Rattle.fetch_base.specs.Id.{id_cmp}
-use Rattle.fetch_store.proofs.Arranged.{halves, Contains-found, consistent_in_order, rises_at}
+use Rattle.fetch_store.proofs.InOrder.{halves, Contains-found, consistent_in_order, rises_at}
 use Rattle.fetch_store.proofs.Borders.{reversed}
 use Rattle.fetch_base.proofs.Ids.{id_cmp_total}
 use Rattle.fetch_store.proofs.Lists.{All-find, All-of}

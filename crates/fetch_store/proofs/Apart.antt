@@ -7,7 +7,7 @@ use Rattle.fetch_objects.specs.Objects.{Stored}
 use Rattle.fetch_store.specs.Stores.{Entries}
 use Rattle.fetch_base.specs.Id.{id_cmp}
 use Rattle.fetch_store.specs.Collisions.{HasDistinctIds}
-use Rattle.fetch_store.proofs.Arranged.{none_found}
+use Rattle.fetch_store.proofs.InOrder.{none_found}
 use Rattle.fetch_store.proofs.Finds.{not_tied}
 
 pub first_time : (es : Entries) (i : ℕ) (e : ObjectId × Stored) → HasDistinctIds es → i < length es → e ≡ get_or es i e → find id_cmp e.0 (take i es) ≡ None

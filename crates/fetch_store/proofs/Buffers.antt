@@ -19,7 +19,7 @@ use Rattle.fetch_store.specs.Buffers.{lent, Index, entries_in, IsLent, IsIndexed
 use Rattle.fetch_base.proofs.Ids.{id_cmp_total, id_cmp_exact}
 use Rattle.fetch_store.proofs.Finds.{get-map_of, from}
 use Rattle.fetch_store.proofs.Additions.{get-add_all, last_none}
-use Rattle.fetch_store.proofs.Arranged.{IsArranged, order_of, All-found}
+use Rattle.fetch_store.proofs.InOrder.{IsArranged, order_of, All-found}
 use Rattle.fetch_store.proofs.Consistent.{entries_in_order, len_in_order, consistent, find-both}
 use Rattle.fetch_store.proofs.Indexed.{here, stays, walked-push, taken_more}
 use Rattle.fetch_store.proofs.Viewed.{found, viewed-both, viewed_in_order, arranged_values}

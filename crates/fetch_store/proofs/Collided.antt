@@ -14,7 +14,7 @@ use Rattle.fetch_store.specs.Collisions.{IsAt, Differs, AreAtOne, IsFirstToDiffe
 use Rattle.fetch_store.proofs.Additions.{get-add_all, add_all-push}
 use Rattle.fetch_store.proofs.Agreement.{same_kind, parts_true}
 use Rattle.fetch_store.proofs.Consistent.{all_stand, same_as_itself}
-use Rattle.fetch_store.proofs.Arranged.{Contains-found, present}
+use Rattle.fetch_store.proofs.InOrder.{Contains-found, present}
 
 abbrev HaveOneText : Stored → Stored → Type 0
 HaveOneText a b = (a.kind ≡ b.kind) × (a.bytes ≡ b.bytes)

@@ -17,7 +17,7 @@ use Rattle.fetch_store.specs.Entries.{IsConsistent, IsInOrder}
 use Rattle.fetch_base.proofs.Ids.{id_cmp_total, id_cmp_exact}
 use Rattle.fetch_store.proofs.Finds.{ties, get-map_of}
 use Rattle.fetch_store.proofs.Additions.{get-add, get-add_all}
-use Rattle.fetch_store.proofs.Arranged.{consistent_in_order, order_of, present}
+use Rattle.fetch_store.proofs.InOrder.{consistent_in_order, order_of, present}
 use Rattle.fetch_store.proofs.Lists.{All-find, All-of}
 use Rattle.fetch_store.proofs.Growth.{grows-add_all}
 use Rattle.fetch_store.proofs.Agreement.{first_of, same_object}

@@ -13,7 +13,7 @@ use Rattle.fetch_base.specs.Id.{id_cmp}
 use Rattle.fetch_store.specs.Entries.{IsConsistent, IsInOrder}
 use Rattle.fetch_store.specs.Graph.{Node, node_of, graph_of}
 use Rattle.fetch_store.proofs.Finds.{not_tied, is_some-mapped}
-use Rattle.fetch_store.proofs.Arranged.{IsArranged, arranged_found, order_of, truth}
+use Rattle.fetch_store.proofs.InOrder.{IsArranged, arranged_found, order_of, truth}
 use Rattle.fetch_store.proofs.Consistent.{consistent, find-both}
 use Rattle.fetch_store.proofs.Viewed.{found}
 use Rattle.fetch_store.proofs.Merging.{find-append}

@@ -15,7 +15,7 @@ use Rattle.fetch_store.specs.Stores.{Entries, first_some}
 use Rattle.fetch_base.specs.Id.{id_cmp}
 use Rattle.fetch_store.specs.Collisions.{HasDistinctIds}
 use Rattle.fetch_store.specs.Fronts.{front, Rise, AreFronts}
-use Rattle.fetch_store.proofs.Arranged.{none_found}
+use Rattle.fetch_store.proofs.InOrder.{none_found}
 use Rattle.fetch_store.proofs.Consistent.{find-both}
 use Rattle.fetch_store.proofs.Finds.{not_tied, found_at}
 use Rattle.fetch_store.proofs.Apart.{first_time}

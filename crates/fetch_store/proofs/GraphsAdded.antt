@@ -13,7 +13,7 @@ use Rattle.fetch_store.specs.Graph.{Node, node_of, graph_of}
 use Rattle.fetch_base.proofs.Ids.{id_cmp_total, id_cmp_exact}
 use Rattle.fetch_store.proofs.Finds.{get-map_of}
 use Rattle.fetch_store.proofs.Additions.{get-add_all}
-use Rattle.fetch_store.proofs.Arranged.{IsArranged, arranged_found, order_of, truth}
+use Rattle.fetch_store.proofs.InOrder.{IsArranged, arranged_found, order_of, truth}
 use Rattle.fetch_store.proofs.Consistent.{consistent, find-both}
 use Rattle.fetch_store.proofs.Viewed.{found, viewed-both}
 use Rattle.fetch_store.proofs.Graphs.{nodes, all_sorted, get-graph_of}

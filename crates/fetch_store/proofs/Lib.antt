@@ -16,7 +16,7 @@ pub mod Reaching
 pub mod Unclosed
 pub mod Members
 pub mod Spreading
-pub mod Arranged
+pub mod InOrder
 pub mod Consistent
 pub mod Firsts
 pub mod Takes
@@ -32,3 +32,4 @@ pub mod Apart
 pub mod FrontPlaces
 pub mod Walking
 pub mod Marking
+pub mod LeftOut

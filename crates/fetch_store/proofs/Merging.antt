@@ -14,7 +14,7 @@ use Rattle.fetch_base.specs.Id.{id_cmp}
 use Rattle.fetch_store.specs.Entries.{IsInOrder, ends_above}
 use Rattle.fetch_base.proofs.Ids.{id_cmp_total, id_cmp_exact}
 use Rattle.fetch_store.proofs.Borders.{reversed}
-use Rattle.fetch_store.proofs.Arranged.{halves, whole, less, order_of, truth}
+use Rattle.fetch_store.proofs.InOrder.{halves, whole, less, order_of, truth}
 
 is_less : (o : Ordering) → o ≡ Less → T (is_lt o)
 is_less o is = subst (λ (p : Ordering). T (is_lt p)) (sym is) tt

@@ -10,7 +10,7 @@ use Rattle.fetch_base.specs.Id.{id_cmp}
 use Rattle.fetch_store.specs.Entries.{IsInOrder, Surrounds}
 use Rattle.fetch_base.proofs.Ids.{id_cmp_total}
 use Rattle.fetch_store.proofs.Borders.{reversed}
-use Rattle.fetch_store.proofs.Arranged.{order_of, rises_at, none_found, searched}
+use Rattle.fetch_store.proofs.InOrder.{order_of, rises_at, none_found, searched}
 
 -- one step more: half of what is left, at most
 pub halved : (t left half n : ℕ) → 2 ^ t * left ≤ n → 0 < left → 2 * half ≤ left → (2 ^ (t + 1) * half ≤ n) × (2 ^ (t + 1) ≤ 2 * n + 1)

@@ -4,7 +4,7 @@ use Rattle.std.specs.Option.{option_map_or, option_or}
 use Rattle.std.proofs.lemmas.List.Folds.{flat_map-map}
 use Rattle.std.proofs.lemmas.Option.{slice_get-get_or}
 use Rattle.fetch_store.specs.declared.missing.Missing.{Missing}
-use Rattle.fetch_store.proofs.Arranged.{All-found}
+use Rattle.fetch_store.proofs.InOrder.{All-found}
 use Rattle.fetch_store.proofs.Firsts.{first-append}
 use Rattle.std.specs.FinMap.{get, keys, entries, entries_sorted, get-entries, contains_key-keys, empty, get-empty}
 use Rattle.std.specs.FinSet as set

@@ -19,5 +19,5 @@ pub record IsIndexOf (es : Entries) (index : BTreeMap ObjectId (Bor Stored)) : T
 
 -- The index of a list, of either form.
 abbrev pub IsIndex : Entries → Index → Type 0
-IsIndex es (Fronts places) = AreFronts es places.items
+IsIndex es (Fronts places) = AreFronts es places.now
 IsIndex es (Ids index) = IsIndexOf es index

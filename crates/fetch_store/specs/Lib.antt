@@ -13,3 +13,5 @@ pub mod Buffers
 pub mod Collisions
 pub mod Fronts
 pub mod Iter
+pub mod Outward
+pub mod LeftOut

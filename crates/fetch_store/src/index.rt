@@ -1,13 +1,14 @@
 //! The objects of a list by id.
 
-ghost use Rattle.std.specs.Prelude.{◌≡◌, IfOk, option_map};
+ghost use Rattle.std.specs.Prelude.{◌≡◌, IfOk, IfSome, option_map};
 ghost use Rattle.std.specs.FinMap as map;
 ghost use Rattle.std.specs.Option.{option_copied};
+ghost use Rattle.fetch_store.specs.Fronts.{AreFronts};
 ghost use Rattle.fetch_store.specs.Indexes.{IsIndex, IsIndexOf};
 ghost use Rattle.fetch_objects.specs.References.{seen};
 ghost use Rattle.fetch_base.specs.Id.{id_cmp};
 
-use crate::fronts::{find_by_front, places_by_front};
+use crate::fronts::find_by_front;
 use fetch_base::{NoMemory, ObjectId};
 use fetch_objects::{Object, ObjectRef};
 use std::alloc::Global;
@@ -17,20 +18,22 @@ use std::collections::BTreeMap;
 #[derive(Drop)]
 pub(crate) enum Index<'a> {
     /// The places of the objects by the numbers that their ids begin with, which tell the ids apart.
-    Fronts(Vec<(u64, usize)>),
+    Fronts(&'a [(u64, usize)]),
     /// The first object of each id.
     Ids(BTreeMap<ObjectId, &'a Object>),
 }
 
-/// The index of a list: a map is made only where the first bytes of the ids don't tell them apart.
+/// The index of a list: a map is made only where there is no order of it.
 pub(crate) fn index_of<'a>(
     alloc: Global,
     objects: &'a [(ObjectId, Object)],
+    order: &'a Option<Vec<(u64, usize)>>,
 ) -> Result<Index<'a>, NoMemory>
+    requires { IfSome order.now (λ places. AreFronts objects.now places.items) }
     ensures { IfOk result (λ index. IsIndex objects.now index) }
 {
-    match places_by_front(alloc, objects)? {
-        Some(places) => Ok(Index::Fronts(places)),
+    match order {
+        Some(places) => Ok(Index::Fronts(places.as_slice())),
         None => Ok(Index::Ids(first_of_each(alloc, objects)?)),
     }
 }
@@ -59,7 +62,7 @@ fn find<'a>(
     ensures { option_copied result ≡ map.find id_cmp id.now objects.now }
 {
     match index {
-        Index::Fronts(places) => find_by_front(objects, places.as_slice(), id),
+        Index::Fronts(places) => find_by_front(objects, places, id),
         Index::Ids(firsts) => firsts.get(id).copied(),
     }
 }

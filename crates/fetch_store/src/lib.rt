@@ -1,6 +1,7 @@
 //! A store of Git's objects, and graphs, borders and walks of them.
 #![tactic(auto)]
 
+mod arranged;
 mod border;
 mod buffer;
 mod collisions;
@@ -12,6 +13,7 @@ mod iter;
 pub mod laws;
 mod missing;
 mod objects;
+mod outward;
 mod reach;
 mod span;
 mod starts;
@@ -20,6 +22,7 @@ mod store_iter;
 mod take;
 mod walk;
 
+pub use arranged::Arranged;
 pub use border::{Border, ascending};
 pub use fetch_base::{
     Calls, Distinct, Failed, Keyed, Kind, List, NoMemory, ObjectId, ObjectKind, Steps, StoreError,
@@ -27,7 +30,7 @@ pub use fetch_base::{
     id_of, is_decimal, same_id, split_first, split_last,
 };
 pub use fetch_files::{FileError, Files, MemoryFiles, Node, TreeNode};
-pub use fetch_objects::{Links, Object, ObjectRef, Parents};
+pub use fetch_objects::{Link, Links, Object, ObjectRef, Parents, parse_with_links};
 pub use fronts::are_apart;
 pub use graph::Graph;
 pub use missing::{Missing, first_missing};

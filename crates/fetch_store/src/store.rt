@@ -16,6 +16,7 @@ ghost use Rattle.fetch_base.specs.Id.{id_cmp};
 ghost use Rattle.fetch_base.specs.declared.error.StoreError.TheVariants as errors;
 ghost use Rattle.fetch_base.specs.declared.id.ObjectId.{ObjectId as Id};
 
+use crate::arranged::Arranged;
 use crate::buffer::{self, add_new, lend};
 use crate::collisions::{first_collision, first_collision_of_distinct};
 use crate::entries::{find_counted, find_in_order, place_in_order};
@@ -217,6 +218,16 @@ impl Store {
             Some(id) => Err(StoreError::Collision { id }),
             None => Ok(()),
         }
+    }
+
+    /// `check` of a pack: where the first bytes of its ids tell them apart, only the store is asked.
+    pub fn check_pack(&self, pack: &Arranged) -> Result<(), StoreError>
+        ensures { MatchOption (collision self.now.objects pack.now) (result ≡ Ok tt) (λ id. result ≡ Err (errors.Collision id)) }
+    {
+        if pack.is_apart() {
+            return self.check_distinct(pack.as_slice());
+        }
+        self.check(pack.as_slice())
     }
 
     /// Makes room for the list: for its objects and for their bytes. Room that was there stays. The only error is out of

@@ -5,7 +5,7 @@ use Rattle.fetch_base.specs.declared.id.ObjectId.{ObjectId}
 use Rattle.fetch_store.specs.declared.span.Span.{Span}
 use Rattle.fetch_base.specs.Id.{id_cmp}
 use Rattle.fetch_store.specs.Buffers.{Index, IsIndexed, IsAppended}
-use Rattle.fetch_store.proofs.Arranged.{IsArranged}
+use Rattle.fetch_store.proofs.InOrder.{IsArranged}
 use Rattle.fetch_store.proofs.Buffers.{taken}
 use Rattle.fetch_store.proofs.buffer.add_new.Goals as goal
 

@@ -11,7 +11,7 @@ use Rattle.fetch_base.specs.contracts.id.ObjectIdPartialEq.TheImpl as equality
 use Rattle.fetch_base.specs.declared.id.ObjectId.{ObjectId}
 use Rattle.fetch_base.proofs.Ids.{id_cmp_total}
 use Rattle.fetch_base.proofs.Orders.{cmp_is, same_is}
-use Rattle.fetch_store.proofs.Arranged.{arranged}
+use Rattle.fetch_store.proofs.InOrder.{arranged}
 use Rattle.fetch_store.proofs.entries.arrange.Goals as goal
 
 pub returns : goal.returns

@@ -2,7 +2,7 @@ use Rattle.std.proofs.Common.{sym, ap, ◌∙◌}
 use Rattle.std.specs.Cmp.{tied_itself}
 use Rattle.std.specs.FinMap.{is_sorted}
 use Rattle.fetch_base.specs.Id.{id_cmp}
-use Rattle.fetch_store.proofs.Arranged.{order_of, searched}
+use Rattle.fetch_store.proofs.InOrder.{order_of, searched}
 use Rattle.fetch_base.proofs.Ids.{id_cmp_total}
 use Rattle.fetch_store.proofs.entries.find_in_order.Goals as goal
 

@@ -3,7 +3,7 @@ use Rattle.std.specs.FinMap.{find, contains_key, entries, from_sorted}
 use Rattle.fetch_base.specs.declared.id.ObjectId.{ObjectId}
 use Rattle.fetch_base.specs.Id.{id_cmp}
 use Rattle.fetch_store.specs.Graph.{Graph, Node, graph_of}
-use Rattle.fetch_store.proofs.Arranged.{IsArranged}
+use Rattle.fetch_store.proofs.InOrder.{IsArranged}
 use Rattle.fetch_store.proofs.Extended.{new_of, new_nodes, graph_merged}
 use Rattle.fetch_store.proofs.Graphs.{nodes}
 use Rattle.fetch_store.proofs.GraphsAdded.{nodes_of}

@@ -2,7 +2,7 @@ use Rattle.std.proofs.Common.{sym, ap, ◌∙◌}
 use Rattle.std.specs.FinMap.{get, find, is_sorted, get-from_sorted}
 use Rattle.fetch_base.specs.Id.{id_cmp}
 use Rattle.fetch_store.specs.Graph.{Graph}
-use Rattle.fetch_store.proofs.Arranged.{order_of}
+use Rattle.fetch_store.proofs.InOrder.{order_of}
 use Rattle.fetch_store.proofs.graph.Graph.get.Goals as goal
 
 pub returns : goal.returns

@@ -4,7 +4,7 @@ use Rattle.fetch_base.specs.declared.id.ObjectId.{ObjectId}
 use Rattle.fetch_base.specs.Id.{id_cmp}
 use Rattle.fetch_store.specs.Entries.{IsInOrder}
 use Rattle.fetch_store.specs.Graph.{Node}
-use Rattle.fetch_store.proofs.Arranged.{truth}
+use Rattle.fetch_store.proofs.InOrder.{truth}
 use Rattle.fetch_store.proofs.Graphs.{nodes, all_sorted}
 use Rattle.fetch_store.proofs.graph.Graph.of.Goals as goal
 

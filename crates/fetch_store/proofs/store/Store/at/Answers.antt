@@ -8,7 +8,7 @@ use Rattle.fetch_store.specs.Buffers.{lent}
 use Rattle.fetch_objects.specs.Objects.{Stored}
 use Rattle.fetch_store.specs.Stores.{Entries, StoreValue}
 use Rattle.fetch_base.specs.Id.{id_cmp}
-use Rattle.fetch_store.proofs.Arranged.{consistent_in_order, order_of}
+use Rattle.fetch_store.proofs.InOrder.{consistent_in_order, order_of}
 use Rattle.fetch_store.proofs.Buffers.{entries-lent, get-lent, ids-lent, len-lent, lent_at}
 use Rattle.fetch_store.proofs.store.Store.at.Goals as goal
 

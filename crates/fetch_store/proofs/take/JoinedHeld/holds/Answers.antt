@@ -24,15 +24,15 @@ joined m es q = ap is_some (sym (get-add_all m es q))
 pub returns-then-is_some : goal.returns-then-is_some
 returns-then-is_some c =
     let q = c.args.id.now in
-    let es = c.self.inside.objects.now in
+    let es = c.self.inside.pack.now in
     let m = c.self.inside.store.now.objects in
-    let listed : is_some (find id_cmp q es) ≡ true = ap is_some (sym c.find_in_index.ensures) ∙ is_some-mapped seen c.find_in_index.result ∙ sym c.is_some.ensures ∙ c.if-is_some.true in
+    let listed : is_some (find id_cmp q es) ≡ true = ap (λ (l : Entries). is_some (find id_cmp q l)) (sym c.as_slice.ensures) ∙ ap is_some (sym c.find_in_index.ensures) ∙ is_some-mapped seen c.find_in_index.result ∙ sym c.is_some.ensures ∙ c.if-is_some.true in
     either (get m q) (find id_cmp q es) listed ∙ joined m es q ∙ ap (λ (n : ObjectMap). contains_key n q) c.self.view_is
 
 pub returns : goal.returns
 returns c =
     let q = c.args.id.now in
-    let es = c.self.inside.objects.now in
+    let es = c.self.inside.pack.now in
     let m = c.self.inside.store.now.objects in
-    let unlisted : is_some (find id_cmp q es) ≡ false = ap is_some (sym c.find_in_index.ensures) ∙ is_some-mapped seen c.find_in_index.result ∙ sym c.is_some.ensures ∙ c.if-is_some.false in
+    let unlisted : is_some (find id_cmp q es) ≡ false = ap (λ (l : Entries). is_some (find id_cmp q l)) (sym c.as_slice.ensures) ∙ ap is_some (sym c.find_in_index.ensures) ∙ is_some-mapped seen c.find_in_index.result ∙ sym c.is_some.ensures ∙ c.if-is_some.false in
     c.contains.ensures ∙ first (get m q) (find id_cmp q es) unlisted ∙ joined m es q ∙ ap (λ (n : ObjectMap). contains_key n q) c.self.view_is
