@@ -8,3 +8,4 @@ pub mod Laws
 pub mod Members
 pub mod Refused
 pub mod Growing
+pub mod Judged

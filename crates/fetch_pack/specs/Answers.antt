@@ -9,7 +9,7 @@ use Rattle.fetch_pack.specs.declared.reading.Pack.{Pack}
 use Rattle.fetch_pack.specs.declared.version.PackVersion.{PackVersion}
 use Rattle.fetch_pack.specs.Once.{AreNamed}
 use Rattle.fetch_pack.specs.Packs.{IsPack, contents_of}
-use Rattle.fetch_pack.specs.Reading.{is_memory, opened, read}
+use Rattle.fetch_pack.specs.Reading.{is_memory, judged, read}
 use Rattle.fetch_pack.specs.Records.{Payload}
 use Rattle.fetch_pack.specs.Refusals.{IsRefused}
 use Rattle.fetch_pack.specs.Views.{contents}
@@ -31,5 +31,5 @@ pub record IsReading (kind : Kind) (bytes : List ℕ) (result : Result Pack Pack
   pub refused : IfErr result (λ e. IsRefused kind bytes e)
   -- Which refusal it is: structure first, then the digest, the grammar of all objects, the ids that are written, and collisions.
   pub exact : AnswersBy contents is_memory (read kind bytes) result
-  -- A fault of the structure or of the digest is told for certain, never as out of memory.
-  pub at_once : IfErr (opened kind bytes) (λ e. result ≡ Err e)
+  -- What is wrong with the structure, the digest, an object or a written id is told for certain, never as out of memory.
+  pub at_once : IfErr (judged kind bytes) (λ e. result ≡ Err e)

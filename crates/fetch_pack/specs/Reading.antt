@@ -79,12 +79,6 @@ with_digest hash f =
     let computed = digest hash f.body in
     if is_id f.digest computed then Ok f else Err (PackDigest f.digest computed)
 
--- the parts, where structure and digest are right: no memory is taken for it
-abbrev pub opened : Kind → List ℕ → Result Frame PackError
-opened hash bytes = do
-  framed ← structure hash bytes
-  with_digest hash framed
-
 -- ---- objects
 
 -- the bytes of a record before its payload
@@ -165,6 +159,26 @@ unless kept None = Ok kept
 -- each entry once, or the first id with two objects
 abbrev pub distinct : Entries → Result Entries PackError
 distinct os = unless (once_from [] os) (collision finmap.empty os)
+
+-- ---- what is told without memory
+
+-- nothing, or the same refusal
+abbrev pub outcome : {A : Type 0} → Result A PackError → Result (Unit {0}) PackError
+outcome (Ok x) = Ok tt
+outcome (Err e) = Err e
+
+-- the first object that breaks the grammar, or else the first id that isn't the one written
+abbrev pub tested : Kind → Frame → Result (Unit {0}) PackError
+tested hash f = do
+  os ← all_parsed f.version hash 12 f.written
+  with_ids f.version hash f.written (ids_of hash os)
+
+-- all that may be wrong with a text but a collision: no memory is taken to tell it
+abbrev pub judged : Kind → List ℕ → Result (Unit {0}) PackError
+judged hash bytes = do
+  framed ← structure hash bytes
+  f ← with_digest hash framed
+  tested hash f
 
 -- ---- the whole
 

@@ -13,26 +13,27 @@ ghost use Rattle.fetch_pack.specs.Reading.{is_memory};
 ghost use Rattle.fetch_pack.specs.Places.{ArePlaces};
 
 use crate::error::PackError;
-use fetch_store::{NoMemory, Object, ObjectId, are_apart};
+use fetch_store::{Arranged, NoMemory, Object, ObjectId};
 use std::alloc::Global;
 use std::collections::BTreeMap;
 
 /// The objects under their ids, each id once, where it first comes. Two that differ collide. Where the first bytes of the
-/// ids tell all of them apart, no id is looked for.
+/// ids tell all of them apart, they are put in order once, and no id is looked for.
 pub(crate) fn distinct(
     alloc: Global,
     ids: &[ObjectId],
     objects: Vec<Object>,
-) -> Result<Vec<(ObjectId, Object)>, PackError>
+) -> Result<Arranged, PackError>
     requires { length ids.now ≡ vec_len objects }
-    ensures { AnswersBy (λ v. v.items) is_memory (spec.distinct (spec.paired ids.now objects.items)) result }
+    ensures { AnswersBy (λ a. a) is_memory (spec.distinct (spec.paired ids.now objects.items)) result }
 {
     let entries = under_ids(alloc, ids, objects)?;
-    let apart = are_apart(alloc, entries.as_slice())?;
-    if apart {
-        return Ok(entries);
+    let pack = Arranged::of(alloc, entries)?;
+    if pack.is_apart() {
+        return Ok(pack);
     }
-    first_of_each(alloc, entries)
+    let kept = first_of_each(alloc, pack.into_vec())?;
+    Ok(Arranged::of(alloc, kept)?)
 }
 
 /// Each object under its id.

@@ -2,6 +2,7 @@
 #![tactic(auto)]
 
 mod error;
+mod faults;
 mod hashing;
 mod kept;
 mod reading;

@@ -12,11 +12,12 @@ ghost use Rattle.fetch_pack.specs.Once.{KeepsEachOnce};
 ghost use Rattle.fetch_pack.specs.declared.version.PackVersion.TheVariants.{V2};
 
 use crate::error::PackError;
+use crate::faults::refusal;
 use crate::hashing::{Gate, OpenGate, hash_pieces};
 use crate::kept::distinct;
 use crate::records::{number_at, record_at, skip_records};
 use crate::version::PackVersion;
-use fetch_store::{Kind, List, NoMemory, Object, ObjectId, ObjectKind, TryClone, digest};
+use fetch_store::{Arranged, Kind, NoMemory, Object, ObjectId, ObjectKind, digest};
 use std::alloc::Global;
 use std::cmp::Ordering;
 use std::thread::Threads;
@@ -25,7 +26,7 @@ use std::thread::Threads;
 #[derive(Debug, Drop)]
 pub struct Pack {
     /// The objects under their ids, each id once, in the order in which they first come.
-    pub objects: List<(ObjectId, Object)>,
+    pub objects: Arranged,
     /// How many objects the pack's text has: one that comes again counts again.
     pub count: u32,
     /// The digest at the pack's end.
@@ -48,14 +49,19 @@ impl Pack {
 /// A pack whose structure is right.
 #[derive(Clone, Copy)]
 pub(crate) struct Framed<'a> {
-    version: PackVersion,
-    count: u32,
-    records: &'a [u8],
-    body: &'a [u8],
-    digest: ObjectId,
+    /// The version that the text names.
+    pub version: PackVersion,
+    /// How many records there are.
+    pub count: u32,
+    /// The text from the first record on.
+    pub records: &'a [u8],
+    /// All before the digest.
+    pub body: &'a [u8],
+    /// The digest at the end.
+    pub digest: ObjectId,
 }
 
-fn structure(hash: Kind, bytes: &[u8]) -> Result<Framed<'_>, PackError>
+pub(crate) fn structure(hash: Kind, bytes: &[u8]) -> Result<Framed<'_>, PackError>
     ensures frame { Answers (frame hash) (spec.structure hash bytes.now) result }
     ensures start { IfOk result (λ f. length f.records.now + 12 ≡ length bytes.now) }
 {
@@ -110,7 +116,7 @@ fn ended<'a>(
     }
 }
 
-fn check_digest(hash: Kind, framed: &Framed<'_>) -> Result<(), PackError>
+pub(crate) fn check_digest(hash: Kind, framed: &Framed<'_>) -> Result<(), PackError>
     ensures { Answers (λ _. frame hash framed.now) (spec.with_digest hash (frame hash framed.now)) result }
 {
     let computed = digest(hash, framed.body);
@@ -124,7 +130,7 @@ fn check_digest(hash: Kind, framed: &Framed<'_>) -> Result<(), PackError>
     }
 }
 
-fn is_same(id: &ObjectId, other: &ObjectId) -> bool
+pub(crate) fn is_same(id: &ObjectId, other: &ObjectId) -> bool
     ensures { result ≡ spec.is_id id.now other.now }
 {
     id.cmp(other) == Ordering::Equal
@@ -211,8 +217,8 @@ fn check_ids(hash: Kind, framed: &Framed<'_>, ids: &[ObjectId]) -> Result<(), Pa
 }
 
 /// Reads a pack of either version, all of the bytes: `read_pack_gated` with a gate that does nothing. Where they are no
-/// pack the refusal is the first in the order that `PackError` tells. A fault of the structure or of the digest is never
-/// told as out of memory.
+/// pack the refusal is the first in the order that `PackError` tells. What is wrong but a collision is never told as out of
+/// memory: where memory runs out, the bytes are judged anew without it, and hashed once more.
 pub fn read_pack<R: Threads + Sync>(
     rt: &R,
     alloc: Global,
@@ -227,7 +233,8 @@ pub fn read_pack<R: Threads + Sync>(
 
 /// Reads a pack of either version, all of the bytes. Its objects are hashed by `hash_pieces` with this gate. The answer
 /// is the same for every number of threads and every gate. Where the bytes are no pack the refusal is the first in the
-/// order that `PackError` tells. A fault of the structure or of the digest is never told as out of memory.
+/// order that `PackError` tells. What is wrong but a collision is never told as out of memory: where memory runs out, the
+/// bytes are judged anew without it, and hashed once more.
 pub fn read_pack_gated<R: Threads + Sync, G: Gate + Sync>(
     rt: &R,
     alloc: Global,
@@ -241,6 +248,7 @@ pub fn read_pack_gated<R: Threads + Sync, G: Gate + Sync>(
     exactly(rt, alloc, kind, bytes, threads, gate)
 }
 
+/// Where memory ran out the bytes are judged anew, without it.
 fn exactly<R: Threads + Sync, G: Gate + Sync>(
     rt: &R,
     alloc: Global,
@@ -250,7 +258,23 @@ fn exactly<R: Threads + Sync, G: Gate + Sync>(
     gate: &G,
 ) -> Result<Pack, PackError>
     ensures exact { AnswersBy contents is_memory (spec.read hash bytes.now) result }
-    ensures at_once { IfErr (spec.opened hash bytes.now) (λ e. result ≡ Err e) }
+    ensures at_once { IfErr (spec.judged hash bytes.now) (λ e. result ≡ Err e) }
+{
+    match read_all(rt, alloc, hash, bytes, threads, gate) {
+        Ok(pack) => Ok(pack),
+        Err(e) => Err(refusal(hash, bytes, e)),
+    }
+}
+
+fn read_all<R: Threads + Sync, G: Gate + Sync>(
+    rt: &R,
+    alloc: Global,
+    hash: Kind,
+    bytes: &[u8],
+    threads: usize,
+    gate: &G,
+) -> Result<Pack, PackError>
+    ensures { AnswersBy contents is_memory (spec.read hash bytes.now) result }
 {
     let framed = structure(hash, bytes)?;
     check_digest(hash, &framed)?;
@@ -260,7 +284,7 @@ fn exactly<R: Threads + Sync, G: Gate + Sync>(
     check_ids(hash, &framed, computed)?;
     let objects = distinct(alloc, computed, objects)?;
     Ok(Pack {
-        objects: List::from(objects),
+        objects,
         count: framed.count,
         digest: framed.digest,
     })

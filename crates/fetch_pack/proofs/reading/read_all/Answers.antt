@@ -4,7 +4,7 @@ use Rattle.fetch_pack.specs.Records.{Written}
 use Rattle.fetch_pack.specs.Reading.{stored, hashed, ids_of}
 use Rattle.fetch_pack.specs.Views.{frame}
 use Rattle.fetch_pack.proofs.Laws.{structure_takes, parsed_found, payloads_in}
-use Rattle.fetch_pack.proofs.reading.exactly.Goals as goal
+use Rattle.fetch_pack.proofs.reading.read_all.Goals as goal
 
 pub check_ids-requires : goal.check_ids-requires
 check_ids-requires g c =
