@@ -23,7 +23,7 @@ use crate::rounds::negotiate;
 use crate::settings::Settings;
 use fetch_negotiate::Shallow;
 use fetch_specs::Tags;
-use fetch_store::{Border, List, NoMemory, Object, ObjectId, Objects};
+use fetch_store::{Arranged, Border, List, NoMemory, ObjectId, Objects};
 use fetch_wire::{Interrupt, Peer};
 use std::alloc::Global;
 use std::thread::Threads;
@@ -58,7 +58,7 @@ pub struct Received {
     /// The rounds that were held, one for each request.
     pub negotiate: Negotiate,
     /// Each once, under the hash of its text. None in a dry run.
-    pub objects: List<(ObjectId, Object)>,
+    pub objects: Arranged,
     /// The ids of the reply's `shallow` lines, in order: commits that join the border.
     pub shallow: List<ObjectId>,
     /// The ids of its `unshallow` lines, in order: commits that leave the border.
@@ -72,9 +72,7 @@ impl Received {
     pub fn try_clone(&self) -> Result<Received, NoMemory>
         ensures { IfOk result (λ copy. copy ≡ self.now) }
     {
-        let objects = self
-            .objects
-            .try_clone_with(|(id, object)| Ok((*id, object.try_clone()?)))?;
+        let objects = self.objects.try_clone()?;
         Ok(Received {
             negotiate: self.negotiate.try_clone()?,
             objects,

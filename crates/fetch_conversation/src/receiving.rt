@@ -19,7 +19,7 @@ use crate::reading_settings::{rejects_shallow, threads};
 use crate::settings::Settings;
 use fetch_negotiate::Shallow;
 use fetch_pack::read_pack;
-use fetch_store::{Border, Kind, List, NoMemory, ObjectId};
+use fetch_store::{Arranged, Border, Kind, NoMemory, ObjectId};
 use fetch_wire::FetchReply;
 use std::alloc::Global;
 use std::thread::Threads;
@@ -81,7 +81,7 @@ fn unpacked(alloc: Global, negotiate: Negotiate, reply: &FetchReply) -> Result<R
 {
     Ok(Received {
         negotiate,
-        objects: List::new(alloc),
+        objects: Arranged::new(alloc),
         shallow: copied_ids(&reply.shallow)?,
         unshallow: copied_ids(&reply.unshallow)?,
         pack: None,

@@ -21,7 +21,7 @@ use fetch_negotiate::{Shallow, tips, wants};
 use fetch_refs::{RefEdit, Signature};
 use fetch_remote::Repository;
 use fetch_specs::{FullName, Tags};
-use fetch_store::{Border, Graph, List, NoMemory, Object, ObjectId, first_missing};
+use fetch_store::{Arranged, Border, Graph, List, NoMemory, Object, ObjectId, first_missing};
 use fetch_wire::RefMap;
 use opening_value::Opening;
 use std::alloc::Global;
@@ -132,9 +132,35 @@ impl SharedState {
             (record { objects = objects.items; shallow = shallow.now; unshallow = unshallow.now }))) result }
         ensures err { OnErr result (self.new ≡ self.old) }
     {
+        let pack = Arranged::of(alloc, objects)?;
+        self.take_arranged(alloc, pass, wants, pack, shallow, unshallow)
+    }
+
+    /// The same, of a pack that was put in order before: nothing of it is sorted, and only links that lead out of it are
+    /// looked up.
+    // Many arguments: as `take`.
+    pub fn take_arranged(
+        &mut self,
+        alloc: Global,
+        pass: u64,
+        wants: &[ObjectId],
+        pack: Arranged,
+        shallow: &[ObjectId],
+        unshallow: &[ObjectId],
+    ) -> Result<Taken, SharedError>
+        requires of_hash { AreOf self.old.repository.state.hash pack }
+        requires named { AreNamed pack }
+        ensures ok { OnOk result (self.new ≡ done self.old
+            (Take pass wants.now (record { objects = pack; shallow = shallow.now; unshallow = unshallow.now }))) }
+        ensures taken { IfOk result (λ taken. taken ≡ snapshot_of self.new) }
+        ensures refusal { RefusesUnless is_memory
+            (refusal (state_of self.old) (Take pass wants.now
+            (record { objects = pack; shallow = shallow.now; unshallow = unshallow.now }))) result }
+        ensures err { OnErr result (self.new ≡ self.old) }
+    {
         let take = fetch_store::Take {
             wants,
-            objects: objects.as_slice(),
+            objects: &pack,
             shallow,
             unshallow,
         };
@@ -142,11 +168,11 @@ impl SharedState {
         let entry = entry_of(alloc, pass, &take)?;
         let border = merged(alloc, self.repo.border(), shallow, unshallow)?;
         let kept = self.graph.take();
-        let graph = extended(alloc, kept, self.repo.store(), objects.as_slice())?;
+        let graph = extended(alloc, kept, self.repo.store(), pack.as_slice())?;
         let copy = graph.try_clone(alloc)?;
         let refs = self.repo.refs().try_clone()?;
         self.entries.reserve(1)?;
-        add(&mut self.repo, objects, border)?;
+        add(&mut self.repo, pack.into_vec(), border)?;
         self.graph = Some(graph);
         self.entries.push_reserved(entry);
         Ok(Taken {

@@ -28,7 +28,7 @@ pub(crate) fn judge(
 ) -> Result<(), SharedError>
     ensures { RefusesUnless is_memory (take_refusal (holding store.now.objects border.now) take.now.wants.now (pack_of take.now)) result }
 {
-    if let Err(StoreError::Collision { id }) = store.check(take.objects) {
+    if let Err(StoreError::Collision { id }) = store.check_pack(take.objects) {
         return Err(SharedError::Collision { id });
     }
     match first_missing_of_take(alloc, store, border, take)? {
@@ -44,7 +44,7 @@ pub(crate) fn entry_of(alloc: Global, pass: u64, take: &Take<'_>) -> Result<Entr
 {
     Ok(Entry::Take {
         pass,
-        ids: ids_of(alloc, take.objects)?,
+        ids: ids_of(alloc, take.objects.as_slice())?,
         shallow: copy(alloc, take.shallow)?,
         unshallow: copy(alloc, take.unshallow)?,
     })

@@ -46,7 +46,7 @@ fn read_objects_in<R: Threads + Sync>(
 {
     let bytes = joined(alloc, payloads)?;
     match read_pack(rt, alloc, hash, &bytes, 1) {
-        Ok(pack) => Ok(Some(List::from(pack.objects))),
+        Ok(pack) => Ok(Some(List::from(pack.objects.into_vec()))),
         Err(PackError::NoMemory) => Err(NoMemory),
         Err(
             PackError::Malformed { .. }

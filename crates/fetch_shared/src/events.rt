@@ -16,7 +16,7 @@ use fetch_journal::{Plan, SharedError, Taken};
 use fetch_negotiate::Shallow;
 use fetch_refs::{RefEdit, Signature};
 use fetch_specs::{FullName, Tags};
-use fetch_store::{Object, ObjectId};
+use fetch_store::{Arranged, ObjectId};
 use fetch_wire::RefMap;
 use std::alloc::Global;
 use std::sync::Wait;
@@ -24,8 +24,8 @@ use std::sync::Wait;
 /// A pack that was read, with the lines that came with it.
 #[derive(Drop)]
 pub struct ReceivedPack<'a> {
-    /// The objects with their ids, in the order of the pack.
-    pub objects: Vec<(ObjectId, Object)>,
+    /// The objects with their ids, in the order of the pack, put in order before any turn.
+    pub objects: Arranged,
     /// The commits that enter the border.
     pub shallow: &'a [ObjectId],
     /// The commits that leave it.
@@ -85,13 +85,13 @@ impl SharedRepository {
         pack: ReceivedPack<'_>,
     ) -> (Pass, Result<Taken, SharedError>)
         requires shared { pass.shared ≡ self.now }
-        requires of_hash { AreOf self.now.opening.state.hash pack.objects.items }
-        requires named { AreNamed pack.objects.items }
+        requires of_hash { AreOf self.now.opening.state.hash pack.objects }
+        requires named { AreNamed pack.objects }
         ensures back { IsBack pass result.0 }
         ensures turn { let event = Take pass.number wants.now (pack_in pack.entry) in IsTurn pass result.0 event
             (λ v. snapshot_of (done v event)) result.1 }
         ensures added { OnOk result.1 (entries_of pass.number result.0.front ≡ entries_of pass.number pass.front
-            ++ entries.Take pass.number (map (λ e. e.0) pack.entry.objects.items) pack.entry.shallow.now pack.entry.unshallow.now ∷ []) }
+            ++ entries.Take pass.number (map (λ e. e.0) pack.entry.objects) pack.entry.shallow.now pack.entry.unshallow.now ∷ []) }
         ensures none { OnErr result.1 (entries_of pass.number result.0.front ≡ entries_of pass.number pass.front) }
     {
         let ReceivedPack {
@@ -100,7 +100,7 @@ impl SharedRepository {
             unshallow,
         } = pack;
         let mut state = self.take_turn(rt, &mut pass.seat);
-        match state.take(alloc, pass.number, wants, objects, shallow, unshallow) {
+        match state.take_arranged(alloc, pass.number, wants, objects, shallow, unshallow) {
             Ok(taken) => {
                 self.record(&mut pass.seat, state);
                 (pass, Ok(taken))

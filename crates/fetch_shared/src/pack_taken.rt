@@ -106,7 +106,7 @@ fn take<R: Wait>(
         pack,
     } = received;
     let received_pack = ReceivedPack {
-        objects: objects.into_vec(),
+        objects,
         shallow: shallow.as_slice(),
         unshallow: unshallow.as_slice(),
     };

@@ -5,7 +5,7 @@ use crate::reaching::border_of;
 use crate::words::{ids_of, say_ids};
 use crate::world::World;
 use fetch_store::{
-    Graph, Missing, NoMemory, Object, ObjectId, Objects, Store, Take, ascending, first_missing,
+    Arranged, Graph, Missing, NoMemory, ObjectId, Objects, Store, Take, ascending, first_missing,
     first_missing_of_take, split_first,
 };
 use rows::{refuse, say, say_number, split_word};
@@ -50,7 +50,7 @@ fn missing_of(
     alloc: Global,
     world: &World,
     ids: &[u8],
-    objects: &[(ObjectId, Object)],
+    objects: &Arranged,
 ) -> Result<Option<Missing>, NoMemory> {
     let ids = lists_of(alloc, ids)?;
     let border = border_of(alloc, world.border.as_slice())?;
@@ -75,7 +75,8 @@ pub(crate) fn tell_take(
     let Some(objects) = pack_of(rt, alloc, pack)? else {
         return Ok(false);
     };
-    let missing = missing_of(alloc, world, ids, objects.as_slice())?;
+    let pack = Arranged::of(alloc, objects)?;
+    let missing = missing_of(alloc, world, ids, &pack)?;
     tell_missing(out, missing)?;
     Ok(true)
 }

@@ -236,12 +236,12 @@ fn may_take(
     check_links(alloc, repo, wants, received)
 }
 
-/// Whether no id has another object. Within the pack none comes twice, so only the repository can have another.
+/// Whether no id has another object.
 fn check(repo: &Repository, received: &Received) -> Result<(), fetch::Error>
     requires { HasDistinctIds received.now.objects }
     ensures { result ≡ spec.checked (state_of repo.now) (spec.pack_of received.now) }
 {
-    match repo.store().check_distinct(received.objects.as_slice()) {
+    match repo.store().check_pack(&received.objects) {
         Ok(()) => Ok(()),
         Err(StoreError::Collision { id }) => Err(fetch::Error::Collision { id }),
         Err(_) => Err(fetch::Error::NoMemory),
@@ -259,7 +259,7 @@ fn check_links(
 {
     let take = Take {
         wants,
-        objects: received.objects.as_slice(),
+        objects: &received.objects,
         shallow: received.shallow.as_slice(),
         unshallow: received.unshallow.as_slice(),
     };
