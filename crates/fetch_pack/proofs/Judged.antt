@@ -84,7 +84,7 @@ own_from hash count bytes = own_compared hash (records V2 hash count bytes).writ
 
 step : (hash : Kind) (count i : ℕ) (bytes : List ℕ) (x : Written × List ℕ) → i < count → record_at V2 hash bytes ≡ Some x
     → own_from hash (count - i) bytes ≡ cond (is_id (id_of_bytes hash x.0.id) (id_of hash x.0.payload.kind x.0.payload.bytes)) (own_from hash (count - (i + 1)) x.1)
-        (Err (IdMismatch (id_of_bytes hash x.0.id) (id_of hash x.0.payload.kind x.0.payload.bytes)))
+    (Err (IdMismatch (id_of_bytes hash x.0.id) (id_of hash x.0.payload.kind x.0.payload.bytes)))
 step hash count i bytes x lt is = ap (λ (r : Records). own_compared hash r.written) (records_step V2 hash count i bytes x lt is)
 
 pub own_goes_on : (hash : Kind) (count i : ℕ) (bytes : List ℕ) (x : Written × List ℕ) (total : Answer) → i < count → record_at V2 hash bytes ≡ Some x

@@ -39,8 +39,11 @@ loop-i-preserved c =
     let o : Stored = stored c.args.hash x.0.payload in
     record {
       within = omega (arith, (record_is f.version c.args.hash c.loop-i.rest.now x (sym c.in-Some.ensures)).0, c.loop-i.invariant.within);
-      same = (front ++ o ∷ [], goes_on front f.version c.args.hash c.args.pack_len f.count c.loop-i.i c.loop-i.rest.now x o (parsed_from f.version c.args.hash c.args.pack_len f.count f.records.now) fits c.loop-i-test.true (sym c.in-Some.ensures)
-          (parsed_well c.args.hash _ x.0.payload (sym (ap (λ (o : Stored). is_object o.hash o.kind o.bytes) c.new-object.ensures) ∙ sym c.is_in_grammar.ensures ∙ c.if-is_in_grammar.true)) c.loop-i.invariant.same.1);
+      same = (
+        front ++ o ∷ [],
+        goes_on front f.version c.args.hash c.args.pack_len f.count c.loop-i.i c.loop-i.rest.now x o (parsed_from f.version c.args.hash c.args.pack_len f.count f.records.now) fits c.loop-i-test.true (sym c.in-Some.ensures)
+            (parsed_well c.args.hash _ x.0.payload (sym (ap (λ (o : Stored). is_object o.hash o.kind o.bytes) c.new-object.ensures) ∙ sym c.is_in_grammar.ensures ∙ c.if-is_in_grammar.true)) c.loop-i.invariant.same.1,
+      );
     }
 
 pub returns : goal.returns
