@@ -96,13 +96,17 @@ class Waiting(WithSignals):
                     os.remove(self.path("begun"))
 
     def test_a_fetch_leaves_the_repository_as_it_was(self):
+        """But for FETCH_HEAD, which is emptied before a server is asked, as Git does."""
         folder = os.path.join(self.client, ".git")
+        with open(os.path.join(folder, "FETCH_HEAD"), "w", encoding="utf-8") as file:
+            file.write("what an earlier fetch told\n")
         before = sorted(os.listdir(folder)), Repository(self.client).references()
         tool = self.start("git-bagjulen", "fetch", self.server, "main:refs/heads/x",
                           BAGJULEN=self.slow_engine(), GIT_DIR=folder)
         self.wait_for(self.path("begun"))
         self.assertEqual(self.end(tool, signal.SIGTERM), -signal.SIGTERM)
         self.assertEqual((sorted(os.listdir(folder)), Repository(self.client).references()), before)
+        self.assertEqual(os.path.getsize(os.path.join(folder, "FETCH_HEAD")), 0)
 
     def test_a_server_that_says_nothing(self):
         """Neither before its greeting nor behind its listing."""

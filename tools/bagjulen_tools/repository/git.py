@@ -226,7 +226,7 @@ def truth(entries: Mapping[str, str | None], *keys: str) -> bool | None:
                 return word in TRUE
             number = word.rstrip("kmg") if word[-1:] in "kmg" else word
             if not number.removeprefix("-").isdecimal():
-                raise Trouble(BAD_INPUT, f"bad boolean config value '{value}' for '{key}'")
+                raise Trouble(GIT_REFUSED, f"bad boolean config value '{value}' for '{key}'")
             return int(number) != 0
     return None
 
