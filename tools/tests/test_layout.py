@@ -31,14 +31,20 @@ class Layout(unittest.TestCase):
                     self.assertEqual(help_of(second).returncode, 0)
                     os.remove(second)
 
-    def test_each_link_has_its_module(self) -> None:
+    def test_each_command_of_a_group_has_its_module(self) -> None:
         package = os.path.join(TOOLS, "bagjulen_tools")
         for group in ("dev", "measure", "vectors"):
             for name in os.listdir(os.path.join(TOOLS, group)):
-                path = os.path.join(TOOLS, group, name)
-                if os.path.islink(path):
-                    self.assertEqual(os.readlink(path), "../launch")
-                    self.assertTrue(os.path.exists(os.path.join(package, group, name.replace("-", "_") + ".py")), path)
+                with open(os.path.join(TOOLS, group, name), encoding="utf-8") as file:
+                    text = file.read()
+                if "launch" in text:
+                    self.assertEqual(text.splitlines()[-1].partition("/../launch\" ")[2], f'{group} {name} "$@"')
+                    self.assertTrue(os.path.exists(os.path.join(package, group, name.replace("-", "_") + ".py")), name)
+
+    def test_no_file_is_a_link(self) -> None:
+        """The gate refuses a repository that has one."""
+        ended = subprocess.run(["git", "ls-files", "-s"], cwd=TOP, capture_output=True, text=True)
+        self.assertEqual([line for line in ended.stdout.splitlines() if line.startswith("120000")], [])
 
 
 class Linters(unittest.TestCase):
